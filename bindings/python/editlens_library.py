@@ -62,10 +62,12 @@ class Unopened(Exception):
 
 
 def find_library():
-    """The path of libeditlens.so: what EDITLENS_LIBRARY_PATH names, or the one beside this file, or the one that ./build --library makes."""
+    """The path of libeditlens.so: what EDITLENS_LIBRARY_PATH names, or the one beside this file or in the package editlens, as it is installed, or
+    the one that ./build --library makes."""
     top = os.path.dirname(os.path.dirname(HERE))
-    beside, built = os.path.join(HERE, "libeditlens.so"), os.path.join(top, ".library", "lib", "libeditlens.so")
-    for path in (os.environ.get("EDITLENS_LIBRARY_PATH"), beside, built):
+    beside = [os.path.join(HERE, *below, "libeditlens.so") for below in ((), ("editlens",))]
+    built = os.path.join(top, ".library", "lib", "libeditlens.so")
+    for path in (os.environ.get("EDITLENS_LIBRARY_PATH"), *beside, built):
         if path and os.path.exists(path):
             return path
     raise NoLibrary
