@@ -72,7 +72,9 @@ def npm_package(built):
         files[name] = read(os.path.join(NODE, name))
     for name, source in ADDONS.items():
         files[name] = addon(source, built.library)
-        files[f"src/{source}"] = read(os.path.join(NODE, source))
+    for source in os.listdir(NODE):
+        if source.endswith((".c", ".h")):
+            files[f"src/{source}"] = read(os.path.join(NODE, source))
     files["src/editlens.h"] = read(os.path.join(built.library, "include", "editlens.h"))
     files["lib/libeditlens.a"] = read(os.path.join(built.library, "lib", "libeditlens.a"))
     tar = Tar("package", time_of_commit())
