@@ -19,10 +19,10 @@ from typing import Dict, NamedTuple, Optional
 from . import TOP, tracked
 from .archives import Tar
 from .manual import version
+from .tools import tools
 
 PROGRAMS = {"editlens": "lib/editlens/editlens-program", "edithub": "lib/editlens/edithub-program"}
 TOOLS = "lib/editlens/tools"
-NOT_TOOLS = ("check",)
 HOW = """editlens {version}
 
 bin/editlens runs from here, and bin/edithub. They are a script that wants bash and coreutils, and runs a program of lib/editlens, which
@@ -42,12 +42,6 @@ class Built(NamedTuple):
     programs: Dict[str, str]
     library: Optional[str] = None
     is_proved: bool = False
-
-
-def tools(top=TOP):
-    """The names of the tools, which are the executable files of tools/."""
-    names = (os.path.basename(it) for it in glob.glob(os.path.join(top, "tools", "*")) if os.path.isfile(it) and os.access(it, os.X_OK))
-    return sorted(it for it in names if it not in NOT_TOOLS)
 
 
 def shared_files(top=TOP):

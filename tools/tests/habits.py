@@ -3,6 +3,7 @@
 import json
 import os
 import re
+import shutil
 import subprocess
 import sys
 from importlib.util import find_spec
@@ -14,16 +15,16 @@ from . import Skipped
 
 sys.path.insert(0, os.path.join(TOP, "dev"))
 
-from repository.manual import PAGE, manual, version  # noqa: E402
+from repository.manual import HUBS, PAGE, manual, version  # noqa: E402
 from repository.pages import read_page, roff, section, table_with  # noqa: E402
-
+from repository.tools import tools  # noqa: E402
 
 NEEDS_PROGRAM = False
 
 
-def commands():
-    """The words that name a command, by docs/FORMATS.md."""
-    table = table_with(section(read_page("docs/FORMATS.md"), "Commands"), "Words")
+def commands(heading="Commands"):
+    """The words that name a command, by a section of docs/FORMATS.md."""
+    table = table_with(section(read_page("docs/FORMATS.md"), heading), "Words")
     return {row[0].strip("`").split()[0] for row in table.rows if row[0].startswith("`")}
 
 
@@ -39,13 +40,32 @@ def test_markdown_for_a_manual_page():
     assert table_with(section(page, "Two"), "A").rows == (("1", "2"),)
 
 
-def test_completion_knows_every_command():
-    bash, zsh = read_page("completions/editlens.bash"), read_page("completions/_editlens")
-    offered = set(re.search(r'compgen -W "([^"]*)"', bash)[1].split())
-    assert offered == commands() | {"--help", "--version"}, offered
-    assert set(re.findall(r"(?m)^    '(\w+):", zsh)) == commands()
-    words = "source completions/editlens.bash; COMP_WORDS=(editlens un); COMP_CWORD=1; _editlens; echo ${COMPREPLY[*]}"
-    assert subprocess.run(["bash", "-c", words], cwd=TOP, stdout=subprocess.PIPE, text=True).stdout == "undo\n"
+def completed(*words):
+    """What completion for bash offers for the last of these words."""
+    script = f"source completions/editlens.bash; COMP_WORDS=({' '.join(words)}); COMP_CWORD={len(words) - 1}; _editlens; echo ${{COMPREPLY[*]}}"
+    words = ["bash", "-c", script.replace("''", '""')]
+    return set(subprocess.run(words, cwd=TOP, stdout=subprocess.PIPE, text=True, check=True).stdout.split())
+
+
+def test_completion_knows_every_command_and_every_tool():
+    verbs = {"history", "compact", "back", "backup", "restore", "change-lens"}
+    assert completed("./editlens", "''") == commands() | set(tools()) | verbs | {"hub-store", "--help", "--version"}
+    assert completed("./edithub", "''") == commands(HUBS) | {"--help", "--version"}
+    assert completed("./editlens", "hub-store", "''") == commands(HUBS)
+    assert completed("./editlens", "store", "''") == verbs | {"check", "import"}
+    assert completed("./editlens", "un") == {"undo"}
+    of_editlens, of_edithub = read_page("completions/_editlens").split("hub_commands=(")
+    assert set(re.findall(r"(?m)^    '(\w+):", of_editlens)) == commands()
+    assert set(re.findall(r"(?m)^    '(\w+):", of_edithub)) == commands(HUBS)
+
+
+def test_the_manual_page_has_no_fault_of_form():
+    if not shutil.which("mandoc"):
+        raise Skipped("mandoc is not installed")
+    ran = subprocess.run(["mandoc", "-T", "lint", "-W", "error", PAGE], cwd=TOP, stdout=subprocess.PIPE, stderr=subprocess.STDOUT, text=True, check=False)
+    assert (ran.returncode, ran.stdout) == (0, ""), ran.stdout
+    page = read_page(PAGE)
+    assert all(f"\\fB{it}".replace("-", "\\-") in page for it in (*tools(), *commands(HUBS))), "a tool or a command is missing"
 
 
 def test_highlighters_know_every_keyword():

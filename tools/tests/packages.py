@@ -15,7 +15,8 @@ from . import Skipped
 sys.path.insert(0, os.path.join(TOP, "dev"))
 
 from repository.manual import EXAMPLE as MANUAL_EXAMPLE  # noqa: E402
-from repository.package import Built, archive, install, tools  # noqa: E402
+from repository.package import Built, archive, install  # noqa: E402
+from repository.tools import tools  # noqa: E402
 
 EXAMPLE = os.path.join(TOP, "examples", "tasks")
 PLAIN = {"PATH": "/usr/bin:/bin"}

@@ -24,8 +24,9 @@ from repository.archives import members  # noqa: E402
 from repository.bill import kit_libraries  # noqa: E402
 from repository.deb import program_package  # noqa: E402
 from repository.image import image  # noqa: E402
-from repository.package import Built, tools  # noqa: E402
+from repository.package import Built  # noqa: E402
 from repository.release import release  # noqa: E402
+from repository.tools import tools  # noqa: E402
 from repository.wheel import wheel  # noqa: E402
 
 EXAMPLE = os.path.join(TOP, "examples", "tasks")
