@@ -62,9 +62,9 @@ def write(folder: str, named: tuple) -> str:
     return path
 
 
-def said(*words: str, **how: object) -> str:
+def said(*words: str, cwd: "str | None" = None) -> str:
     """What a command writes. One that fails is a failure of the test."""
-    ran = subprocess.run(words, stdout=subprocess.PIPE, stderr=subprocess.STDOUT, text=True, env=PLAIN, check=False, **how)
+    ran = subprocess.run(words, stdout=subprocess.PIPE, stderr=subprocess.STDOUT, text=True, env=PLAIN, cwd=cwd, check=False)
     assert ran.returncode == 0, ran.stdout
     return ran.stdout
 

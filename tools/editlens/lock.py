@@ -4,6 +4,8 @@ The commands that write (init, import, apply, pack, undo) take the same lock the
 command that writes ends with status 7 in a folder that a StoreLock holds. `show` and `verify` take no lock.
 """
 
+from __future__ import annotations
+
 import fcntl
 import os
 import time
@@ -15,7 +17,7 @@ PAUSE = 0.02
 class StoreBusy(Exception):
     """Another program is writing to the store."""
 
-    def __init__(self, folder):
+    def __init__(self, folder: str) -> None:
         super().__init__(f"another program is writing to the store in {folder}: wait until it ends, or stop it; nothing was read or written")
         self.folder = folder
 
@@ -27,18 +29,18 @@ class StoreLock:
     where its file system has no locks. The kernel gives the lock back when the process ends, in whatever way.
     """
 
-    def __init__(self, folder, wait=0.0):
+    def __init__(self, folder: str, wait: float = 0.0) -> None:
         self.folder, self.wait = folder, wait
-        self._open = None
+        self._open: int | None = None
 
-    def __enter__(self):
+    def __enter__(self) -> StoreLock:
         self.take()
         return self
 
-    def __exit__(self, *_):
+    def __exit__(self, *_: object) -> None:
         self.give_back()
 
-    def take(self):
+    def take(self) -> None:
         """Takes the lock, and keeps it. The descriptor is not inherited by programs that are started meanwhile."""
         if self._open is not None:
             raise ValueError("this lock is held already")
@@ -54,7 +56,7 @@ class StoreLock:
             raise
         self._open = held
 
-    def give_back(self):
+    def give_back(self) -> None:
         """Gives the lock back, where it is held."""
         if self._open is not None:
             os.close(self._open)
@@ -69,7 +71,7 @@ def _is_taken(held):
     return True
 
 
-def is_busy(folder):
+def is_busy(folder: str) -> bool:
     """Whether another program holds the lock on a folder now."""
     try:
         with StoreLock(folder):

@@ -1,5 +1,6 @@
 """The files around the program that say again what the pages say: the manual page, completion, highlighters and the changelog."""
 
+import ast
 import json
 import os
 import re
@@ -20,6 +21,7 @@ from repository.pages import read_page, roff, section, table_with  # noqa: E402
 from repository.tools import tools  # noqa: E402
 
 NEEDS_PROGRAM = False
+TYPED = ("answers", "documents", "hub", "hub_store", "json_text", "link", "lock", "parts", "program", "store", "version")
 
 
 def commands(heading="Commands"):
@@ -111,3 +113,16 @@ def test_the_tools_print_the_version():
 def test_the_changelog_has_the_version():
     assert re.fullmatch(r"\d+\.\d+\.\d+", version()), version()
     assert re.search(rf"(?m)^## {re.escape(version())} - \d{{4}}-\d\d-\d\d$", read_page("CHANGELOG.md")), version()
+
+
+def test_public_functions_have_hints_of_types():
+    """Those of the modules for whoever keeps documents in Python. docs/check asks mypy whether they are right."""
+    modules = [f"tools/editlens/{it}.py" for it in TYPED] + [f"bindings/python/{it}.py" for it in ("editlens_library", "editlens_hub")]
+    lacking = []
+    for path in modules:
+        for it in ast.walk(ast.parse(read_page(path))):
+            if isinstance(it, ast.FunctionDef) and not it.name.startswith("_"):
+                given = [*it.args.posonlyargs, *it.args.args, *it.args.kwonlyargs]
+                if it.returns is None or any(each.annotation is None for each in given if each.arg not in ("self", "cls")):
+                    lacking.append(f"{path}: {it.name}")
+    assert not lacking, lacking
