@@ -105,14 +105,20 @@ def test_python(built: Built, room: str) -> None:
 
 
 def test_node(built: Built, room: str) -> None:
-    """The package for Node, installed by npm without a registry; and its addon, built again from what the package has."""
-    if not shutil.which("node") or not shutil.which("npm"):
-        raise Skipped("nodejs or npm is not installed")
+    """The package for Node, installed by npm without a registry, or unpacked as npm does; and its addon, built again from what the package has."""
+    if not shutil.which("node"):
+        raise Skipped("nodejs is not installed")
     try:
         path = write(room, npm_package(built))
     except NoNode as why:
         raise Skipped(str(why)) from None
-    said("npm", "install", "--offline", "--no-audit", "--no-fund", "--loglevel=error", path, cwd=room)
+    if shutil.which("npm"):
+        said("npm", "install", "--offline", "--no-audit", "--no-fund", "--loglevel=error", path, cwd=room)
+    else:
+        with tarfile.open(path) as archive:
+            archive.extractall(room)
+        os.mkdir(os.path.join(room, "node_modules"))
+        os.rename(os.path.join(room, "package"), os.path.join(room, "node_modules", "editlens"))
     example = first_example("js").replace("./index.js", "editlens") + "\nconsole.log(accepted, line, state.right)\n"
     wanted = 'true ok 1 right [{"at":["time",[{"set":8}]]}]\n {"time":8}\n'
     assert said("node", "-e", example, cwd=room) == wanted

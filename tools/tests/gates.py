@@ -13,7 +13,7 @@ NEEDS_PROGRAM = False
 SHELL = ("bash", "cat", "cut", "dirname", "grep", "id", "ln", "mkdir", "mktemp", "rm", "sed", "sleep", "tail", "timeout")
 RT = "echo rt \"$*\"; echo '7 passed, 0 failed'; exit {status}"
 # It does what the files beside it say: a word of `silent` gets no answer, and what it installs is on the path then.
-APT = """case $* in *--simulate*) word=simulate ;; *--download-only*) word=download ;; *update*) word=update ;; *) word=install ;; esac
+APT = """case $* in *--print-uris*) word=resolve ;; *--download-only*) word=download ;; *update*) word=update ;; *) word=install ;; esac
 echo "$word" >>{folder}/calls
 grep -q "$word" {folder}/silent && exit 100
 [ "$word" = install ] && for each in {commands}; do printf '#!/bin/sh\\n' >{folder}/bin/"$each"; chmod +x {folder}/bin/"$each"; done
@@ -146,7 +146,7 @@ def test_what_is_missing_is_named_and_installed():
         assert status == 1 and set(wanted) <= set(named(out)) and calls(folder) == [], out
         others = set(named(out)) - set(wanted)
         status, out, _ = run(folder, "dev/setup")
-        assert calls(folder) == ["update", "simulate", "download", "install"] and set(named(out)) == others and status == bool(others), out
+        assert calls(folder) == ["update", "resolve", "download", "install"] and set(named(out)) == others and status == bool(others), out
         status, out, _ = run(folder, "dev/setup", "--check")
         assert status == bool(others) and set(named(out)) == others
         assert run(folder, "dev/setup", "--other")[0] == 2
@@ -158,7 +158,7 @@ def test_a_registry_is_asked_three_times():
             status, out, err = run(folder, "dev/setup")
             assert status == 3 and calls(folder).count(silent) == 3 and "install" not in calls(folder) and named(out), (out, err)
             assert any("did not answer, three times" in line for line in err), err
-    for silent in ("simulate", "install"):
+    for silent in ("resolve", "install"):
         with machine(silent) as folder:
             status, out, err = run(folder, "dev/setup")
             assert status == 1 and calls(folder).count(silent) == 1 and named(out), (out, err)
