@@ -1,8 +1,20 @@
-# Completion of editlens for bash: the commands, and files behind a redirection.
+# Completion of editlens and edithub for bash: the commands, the tools, and files behind a redirection.
 _editlens() {
-    local word=${COMP_WORDS[COMP_CWORD]}
-    if [ "$COMP_CWORD" -eq 1 ]; then
-        mapfile -t COMPREPLY < <(compgen -W "run check init apply show verify pack gen hub link undo import --help --version" -- "$word")
+    local word=${COMP_WORDS[COMP_CWORD]} place=1 commands
+    local hub="init apply show verify pack undo add" verbs="history compact back backup restore change-lens"
+    case ${COMP_WORDS[0]##*/} in
+        edithub) commands="$hub --help --version" ;;
+        *)
+            commands="run check init apply show verify pack gen hub link undo import --help --version hub-store $verbs"
+            commands="$commands $("${COMP_WORDS[0]}" --help 2>/dev/null | sed -n 's/^  editlens \([a-z][a-z-]*\) .*/\1/p')"
+            ;;
+    esac
+    case ${COMP_WORDS[1]} in
+        hub-store) commands=$hub place=2 ;;
+        store) commands="$verbs check import" place=2 ;;
+    esac
+    if [ "$COMP_CWORD" -eq "$place" ]; then
+        mapfile -t COMPREPLY < <(compgen -W "$commands" -- "$word" | sort -u)
     fi
 }
-complete -o default -F _editlens editlens
+complete -o default -F _editlens editlens edithub

@@ -4,9 +4,14 @@
 library is proved to keep to its header, but this module is only tested.
 """
 
+from __future__ import annotations
+
+import contextlib
 import ctypes
 import itertools
 import threading
+from types import TracebackType
+from typing import Any, Iterable
 
 from editlens_library import BLANK, DONE, FULL, LINE_FEED, NO_MEMORY, NOT_COMPLEMENT, NOT_CONSISTENT, REFUSED, SMALL_BUFFER, UNKNOWN_PART
 from editlens_library import Answer, Unopened, load
@@ -25,7 +30,7 @@ STATE_FAULTS = {
 _typed = set()
 
 
-def load_hubs(path=None):
+def load_hubs(path: str | None = None) -> ctypes.CDLL:
     """The library, with the types of the functions of hubs."""
     library = load(path)
     if id(library) not in _typed:
@@ -58,7 +63,7 @@ class Hub:
     them.
     """
 
-    def __init__(self, programs, state=None, path=None):
+    def __init__(self, programs: list[bytes] | bytes, state: Iterable[bytes] | None = None, path: str | None = None) -> None:
         self.library, self.thread, self.at = load_hubs(path), threading.get_ident(), None
         self.room = ctypes.create_string_buffer(self.library.editlens_hub_size() + 15)
         self.buffer = ctypes.create_string_buffer(4096)
@@ -74,17 +79,16 @@ class Hub:
         if answer.status != DONE:
             line = self.text()
             self.close()
-            why = Unopened(answer, line, {cause: fault.format(answer.part) for cause, fault in STATE_FAULTS.items()})
-            why.view = answer.part
-            raise why
+            faults = {cause: fault.format(answer.part) for cause, fault in STATE_FAULTS.items()}
+            raise Unopened(answer, line, faults, view=answer.part)
 
-    def __enter__(self):
+    def __enter__(self) -> Hub:
         return self
 
-    def __exit__(self, kind, value, trace):
+    def __exit__(self, kind: type[BaseException] | None, value: BaseException | None, trace: TracebackType | None) -> None:
         self.close()
 
-    def here(self):
+    def here(self) -> Any:
         """The address of the hub, on its thread."""
         if self.at is None:
             raise ValueError("the hub is closed")
@@ -92,7 +96,7 @@ class Hub:
             raise ValueError("a hub stays on the thread that opened it")
         return self.at
 
-    def text(self):
+    def text(self) -> bytes:
         """The bytes that answer the last call."""
         answer = self.library.editlens_hub_text(self.here(), self.buffer, len(self.buffer))
         if answer.status == SMALL_BUFFER:
@@ -100,12 +104,12 @@ class Hub:
             answer = self.library.editlens_hub_text(self.here(), self.buffer, answer.len)
         return ctypes.string_at(self.buffer, answer.len)
 
-    def step(self, line):
+    def step(self, line: bytes) -> tuple[Answer, bytes]:
         """Takes a line of a hub's journal, without its LF. Returns the answer and its bytes, which are none for a blank line."""
         answer = self.answered(self.library.editlens_hub_step(self.here(), line, len(line)))
         return answer, self.text()
 
-    def show(self, part, view=0):
+    def show(self, part: int, view: int = 0) -> bytes:
         """The bytes of a part of the state: HUB_STATE, HUB_DOCUMENT, or of a view VIEW_DOCUMENT or VIEW_COMPLEMENT. NoView if there is no such
         view."""
         answer = self.answered(self.library.editlens_hub_show(self.here(), part, view))
@@ -113,21 +117,20 @@ class Hub:
             raise NoView(view)
         return self.text()
 
-    def texts(self):
+    def texts(self) -> tuple[bytes, ...]:
         """The texts from which a hub can go on: that of the hub's document, and for each view in order those of its document and its complement."""
         found = [self.show(HUB_DOCUMENT)]
-        for view in itertools.count():
-            try:
+        with contextlib.suppress(NoView):
+            for view in itertools.count():
                 found += [self.show(part, view) for part in (VIEW_DOCUMENT, VIEW_COMPLEMENT)]
-            except NoView:
-                return tuple(found)
+        return tuple(found)
 
     @property
-    def items(self):
+    def items(self) -> Any:
         """How many items the hub was given."""
         return self.library.editlens_hub_status(self.here()).number
 
-    def answered(self, answer):
+    def answered(self, answer: Answer) -> Any:
         """The answer, if the call did what it was asked, or refused."""
         if answer.status == NO_MEMORY:
             raise MemoryError("memory ran out, and the hub is as before")
@@ -140,7 +143,7 @@ class Hub:
             raise ValueError(reasons[answer.status])
         return answer
 
-    def close(self):
+    def close(self) -> None:
         """Ends the hub. It may be closed twice."""
         if self.at is not None:
             at, self.at = self.here(), None

@@ -10,9 +10,13 @@ takes the place of `from editlens.session import Session`.
 A session stays on the thread that opened it. The library is proved to keep to its header, but this module is only tested.
 """
 
+from __future__ import annotations
+
 import ctypes
 import os
 import threading
+from types import TracebackType
+from typing import Any, Iterable
 
 HERE = os.path.dirname(os.path.abspath(__file__))
 
@@ -51,7 +55,7 @@ class Answer(ctypes.Structure):
 class NoLibrary(Exception):
     """There is no libeditlens.so."""
 
-    def __init__(self):
+    def __init__(self) -> None:
         super().__init__("there is no libeditlens.so: run ./build --library, or name one by EDITLENS_LIBRARY_PATH")
 
 
@@ -66,17 +70,19 @@ class Unopened(Exception):
     """There is no session: the program is refused (`line` says why), or the state is (`cause`), or the records are (`cause`, and `at` is the
     number of the record), or none of these, where memory ran out. Or there is no hub, and `faults` has what is said of each of its causes."""
 
-    def __init__(self, answer, line, faults=None):
+    def __init__(self, answer: Answer, line: bytes, faults: dict[int, str] | None = None, view: int | None = None) -> None:
         faults = faults or {**STATE_FAULTS, **{cause: text.format(answer.at) for cause, text in RECORD_FAULTS.items()}}
         super().__init__(line.decode().rstrip("\n") or faults.get(answer.cause, "memory ran out"))
-        self.status, self.cause, self.at, self.line = answer.status, answer.cause, answer.at, line
+        self.status, self.cause, self.at, self.line, self.view = answer.status, answer.cause, answer.at, line, view
 
 
-def find_library():
-    """The path of libeditlens.so: what EDITLENS_LIBRARY_PATH names, or the one beside this file, or the one that ./build --library makes."""
+def find_library() -> str:
+    """The path of libeditlens.so: what EDITLENS_LIBRARY_PATH names, or the one beside this file or in the package editlens, as it is installed, or
+    the one that ./build --library makes."""
     top = os.path.dirname(os.path.dirname(HERE))
-    beside, built = os.path.join(HERE, "libeditlens.so"), os.path.join(top, ".library", "lib", "libeditlens.so")
-    for path in (os.environ.get("EDITLENS_LIBRARY_PATH"), beside, built):
+    beside = [os.path.join(HERE, *below, "libeditlens.so") for below in ((), ("editlens",))]
+    built = os.path.join(top, ".library", "lib", "libeditlens.so")
+    for path in (os.environ.get("EDITLENS_LIBRARY_PATH"), *beside, built):
         if path and os.path.exists(path):
             return path
     raise NoLibrary
@@ -85,7 +91,7 @@ def find_library():
 _loaded = {}
 
 
-def load(path=None):
+def load(path: str | None = None) -> ctypes.CDLL:
     """The library, with the types of its functions."""
     path = path or find_library()
     if path not in _loaded:
@@ -120,9 +126,19 @@ class Kept:
     other; it is empty if `records` are given, but for the log of an old store.
     """
 
-    def __init__(self, program=None, state=None, path=None, *, left=None, right=None, records=None):
+    def __init__(
+        self,
+        program: bytes | None = None,
+        state: Iterable[bytes] | None = None,
+        path: str | None = None,
+        *,
+        left: bytes | None = None,
+        right: bytes | None = None,
+        records: Iterable[bytes] | None = None,
+    ) -> None:
         if sum(it is not None for it in (state, left, right, records)) > 1 or (program is None) == (records is None):
             raise TypeError("a program, with a state or one document or neither, is wanted; or the records of a log")
+        text = program or b""
         self.library, self.thread, self.at = load(path), threading.get_ident(), None
         size = self.library.editlens_session_size()
         self.room = ctypes.create_string_buffer(size + 15)
@@ -132,13 +148,13 @@ class Kept:
             log = b"".join(it + b"\n" for it in records)
             self.library.editlens_session_reopen(at, log, len(log))
         elif state is not None:
-            self.library.editlens_session_resume(at, program, len(program), *[it for text in state for it in (text, len(text))])
+            self.library.editlens_session_resume(at, text, len(text), *[it for each in state for it in (each, len(each))])
         elif left is not None:
-            self.library.editlens_session_import_left(at, program, len(program), left, len(left))
+            self.library.editlens_session_import_left(at, text, len(text), left, len(left))
         elif right is not None:
-            self.library.editlens_session_import_right(at, program, len(program), right, len(right))
+            self.library.editlens_session_import_right(at, text, len(text), right, len(right))
         else:
-            self.library.editlens_session_open(at, program, len(program))
+            self.library.editlens_session_open(at, text, len(text))
         self.at = at
         answer = self.library.editlens_session_status(at)
         if answer.status != DONE:
@@ -147,13 +163,13 @@ class Kept:
             raise Unopened(answer, line)
         self.opening = self.text()
 
-    def __enter__(self):
+    def __enter__(self) -> Kept:
         return self
 
-    def __exit__(self, kind, value, trace):
+    def __exit__(self, kind: type[BaseException] | None, value: BaseException | None, trace: TracebackType | None) -> None:
         self.close()
 
-    def here(self):
+    def here(self) -> Any:
         """The address of the session, on its thread."""
         if self.at is None:
             raise ValueError("the session is closed")
@@ -161,7 +177,7 @@ class Kept:
             raise ValueError("a session stays on the thread that opened it")
         return self.at
 
-    def text(self):
+    def text(self) -> bytes:
         """The bytes that answer the last call."""
         answer = self.library.editlens_session_text(self.here(), self.buffer, len(self.buffer))
         if answer.status == SMALL_BUFFER:
@@ -169,27 +185,27 @@ class Kept:
             answer = self.library.editlens_session_text(self.here(), self.buffer, answer.len)
         return ctypes.string_at(self.buffer, answer.len)
 
-    def step(self, line):
+    def step(self, line: bytes) -> tuple[Answer, bytes]:
         """Takes a line of a journal, without its LF. Returns the answer and its bytes, which are none for a blank line."""
         answer = self.library.editlens_session_step(self.here(), line, len(line))
         return self.answered(answer), self.text()
 
-    def show(self, part):
+    def show(self, part: int) -> bytes:
         """The bytes of a part of the state: STATE, LEFT, COMPLEMENT, RIGHT, LEFT_TYPE, RIGHT_TYPE or SNAPSHOT, which is a record for a log. Or of
         the change that the last line was: CHANGE, which is a record for a log, UNDO_LEFT or UNDO_RIGHT. ValueError if it was not accepted."""
         self.answered(self.library.editlens_session_show(self.here(), part))
         return self.text()
 
     @property
-    def items(self):
+    def items(self) -> Any:
         """How many items the session was given."""
         return self.library.editlens_session_status(self.here()).number
 
-    def state(self):
+    def state(self) -> Any:
         """The texts from which a session can go on: those of the left document, the complement and the right document."""
         return tuple(self.show(part) for part in (LEFT, COMPLEMENT, RIGHT))
 
-    def answered(self, answer):
+    def answered(self, answer: Answer) -> Any:
         """The answer, if the call did what it was asked, or refused an item."""
         if answer.status == NO_MEMORY:
             raise MemoryError("memory ran out, and the session is as before")
@@ -204,7 +220,7 @@ class Kept:
             raise ValueError(reasons[answer.status])
         return answer
 
-    def close(self):
+    def close(self) -> None:
         """Ends the session. It may be closed twice."""
         if self.at is not None:
             at, self.at = self.here(), None

@@ -1,9 +1,12 @@
-//! Links the library that `./build --library` makes. EDITLENS_LIBRARY names the folder that has libeditlens.a, if it is another one.
+//! Links the library that the crate carries, or the one that `./build --library` makes. EDITLENS_LIBRARY names the folder that has libeditlens.a,
+//! if it is another one.
 use std::env;
 use std::path::PathBuf;
 
 fn main() {
-    let own = PathBuf::from(env::var_os("CARGO_MANIFEST_DIR").unwrap()).join("../../.library/lib");
+    let crate_folder = PathBuf::from(env::var_os("CARGO_MANIFEST_DIR").unwrap());
+    let (carried, built) = (crate_folder.join("lib"), crate_folder.join("../../.library/lib"));
+    let own = if carried.join("libeditlens.a").exists() { carried } else { built };
     let folder = env::var_os("EDITLENS_LIBRARY").map(PathBuf::from).unwrap_or(own);
     println!("cargo:rerun-if-env-changed=EDITLENS_LIBRARY");
     println!("cargo:rerun-if-changed={}", folder.join("libeditlens.a").display());

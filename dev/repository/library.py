@@ -41,7 +41,7 @@ class NoCompiler(Exception):
     """There is no C compiler, or no ar."""
 
     def __init__(self):
-        super().__init__("cc and ar are wanted, which put the library together")
+        super().__init__("cc or ar, which put it together, is not here: build-essential is not installed")
 
 
 def runtime():

@@ -1,13 +1,15 @@
-"""The manual page editlens.1, made from the tables of docs/FORMATS.md."""
+"""The manual page editlens.1, made from the tables of docs/FORMATS.md and from what the tools say of themselves."""
 
 import os
 import re
 
 from . import TOP
 from .pages import read_page, roff, section, table_with
+from .tools import title, tools
 
 PAGE = os.path.join("docs", "editlens.1")
 SOURCE = "docs/FORMATS.md"
+HUBS = "A hub that is kept"
 ABOUT = """\
 .B editlens
 keeps two JSON documents of different shape in step. A lens program says how the two belong together. An edit of either document is
@@ -16,7 +18,12 @@ changes.
 .PP
 A script is a lens program, a line
 .B \\-\\-\\-
-and a journal of edits, one a line. It comes on the standard input, and the answers go to the standard output."""
+and a journal of edits, one a line. It comes on the standard input, and the answers go to the standard output.
+.PP
+.B edithub
+keeps one document in step with up to 64 views, in a store.
+.B editlens hub\\-store
+is the same program. A first word that is no command names a tool."""
 EXAMPLE = """\
 A value that two documents have under different names:
 .PP
@@ -46,9 +53,9 @@ def listed(rows):
     return "\n".join(f".TP\n{roff(tag)}\n{roff(text)}" for tag, text in rows)
 
 
-def commands(page):
-    """What each command reads and writes."""
-    table = table_with(section(page, "Commands"), "Words")
+def commands(page, heading="Commands"):
+    """What each command of a section reads and writes."""
+    table = table_with(section(page, heading), "Words")
     return listed((words, f"Reads {reads}. Result: {writes}.") for words, reads, writes in table.rows if words.startswith("`"))
 
 
@@ -56,7 +63,14 @@ def synopsis(page):
     """A line for each command."""
     table = table_with(section(page, "Commands"), "Words")
     words = [it[0].strip("`") for it in table.rows if it[0].startswith("`")]
-    return "\n.br\n".join(f".B editlens {roff(it)}" for it in [*words, "--help", "--version"])
+    of_hubs = [it[0].strip("`") for it in table_with(section(page, HUBS), "Words").rows if it[0].startswith("`")]
+    lines = [*(f"editlens {it}" for it in words), *(f"edithub {it}" for it in of_hubs), "editlens TOOL ..", "editlens --help", "editlens --version"]
+    return "\n.br\n".join(f".B {roff(it)}" for it in lines)
+
+
+def tool_list(top):
+    """What each tool does."""
+    return listed((f"`{name}`", title(name, top)) for name in tools(top))
 
 
 def written(page):
@@ -77,13 +91,15 @@ def manual(top=TOP):
     page = read_page(SOURCE, top)
     parts = [
         f'.\\" Written by dev/manual from {SOURCE}.\n.TH EDITLENS 1 "" "editlens {version(top)}" "User Commands"',
-        ".SH NAME\neditlens \\- keeps two JSON documents of different shape in step",
+        ".SH NAME\neditlens, edithub \\- keep JSON documents of different shape in step",
         f".SH SYNOPSIS\n{synopsis(page)}",
         f".SH DESCRIPTION\n{ABOUT}",
         f".SH COMMANDS\n{commands(page)}",
+        f".SH COMMANDS OF EDITHUB\n{commands(page, HUBS)}",
+        f".SH TOOLS\nEach says more by \\-\\-help. Installed, it is editlens\\-TOOL too.\n{tool_list(top)}",
         f".SH OUTPUT\n{written(page)}",
         f".SH EXIT STATUS\n{statuses(page)}",
-        ".SH FILES\n.TP\n.B editlens.store\nThe store, in the current folder.",
+        ".SH FILES\n.TP\n.B editlens.store\nThe store, in the current folder.\n.TP\n.B edithub.store\nThe store of a hub.",
         f".SH EXAMPLES\n{EXAMPLE}",
         ".SH SEE ALSO\nThe pages of the project have more: docs/GUIDE.md, and docs/FORMATS.md with every form.",
     ]

@@ -1,12 +1,15 @@
 """The lines that the program writes, read: docs/FORMATS.md has their forms."""
 
+from __future__ import annotations
+
 from dataclasses import dataclass
+from typing import Any, Callable, Iterable, Sequence
 
 from .json_text import read_json
 
 FAULTS = ("line-too-long", "not-json", "not-an-entry", "not-an-edit", "no-view")
 OTHER = {"left": "right", "right": "left"}
-STATUSES = {
+STATUSES: dict[int | None, str] = {
     0: "every entry was accepted",
     1: "an entry was refused",
     2: "the words name no command",
@@ -33,12 +36,12 @@ class Accepted:
     places: tuple = ()
 
     @property
-    def side(self):
+    def side(self) -> str:
         """The side to which a single entry was carried."""
         return self.words[0][0]
 
     @property
-    def word(self):
+    def word(self) -> Any:
         """The word to which a single entry was carried."""
         return self.words[0][1]
 
@@ -46,15 +49,19 @@ class Accepted:
 class Explained(Exception):
     """An exception that says, behind its first line, what is wrong and what to do: `explanation` has those lines."""
 
-    explain = None
+    explain: Callable[[], Iterable[str]] | None = None
     """A call without arguments that returns the lines. It is made where they are asked for, since it may take its time."""
 
+    def said(self) -> str:
+        """The first line. Each class of these exceptions has its own."""
+        raise NotImplementedError
+
     @property
-    def explanation(self):
+    def explanation(self) -> list[str]:
         """The lines that explain it."""
         return list(self.explain()) if self.explain else []
 
-    def __str__(self):
+    def __str__(self) -> str:
         try:
             return "\n".join([self.said(), *self.explanation])
         except Exception as why:
@@ -71,13 +78,13 @@ class Refused(Explained):
     part: "int | None" = None
 
     @property
-    def written(self):
+    def written(self) -> str:
         """The line, as the program writes it."""
         part = f"group {self.part} " if self.part is not None else ""
         cause = self.cause if self.at is None else f"no-apply {self.at} {self.cause}"
         return f"refused {self.number} {part}{cause}"
 
-    def said(self):
+    def said(self) -> str:
         """The line without its explanation."""
         place = f" at primitive {self.at}" if self.at is not None else ""
         part = f" of entry {self.part} of the group" if self.part is not None else ""
@@ -87,11 +94,11 @@ class Refused(Explained):
 class ProgramRefused(Explained):
     """The lens program is refused. `reason` is what stands behind `program refused:`."""
 
-    def __init__(self, reason, explain=None):
+    def __init__(self, reason: str, explain: Callable[[], Iterable[str]] | None = None) -> None:
         super().__init__(reason)
         self.reason, self.explain = reason, explain
 
-    def said(self):
+    def said(self) -> str:
         """The line without its explanation."""
         return f"program refused: {self.reason}"
 
@@ -103,19 +110,21 @@ class RunEnded(Exception):
     or it is not: the count of the store, when it is opened again, is `stored` + 1 or `stored`.
     """
 
-    stored = None
+    stored: int | None = None
+    answers: Sequence[Any] = ()
+    """The answers of a call of many lines that came before."""
 
-    def __init__(self, status):
+    def __init__(self, status: int | None) -> None:
         super().__init__(status)
         self.status = status
 
-    def said(self):
+    def said(self) -> str:
         """What happened to the run."""
         if self.status is not None and self.status < 0:
             return f"the program was ended by signal {-self.status}"
         return f"the program ended with status {self.status}: {STATUSES.get(self.status, 'unknown')}"
 
-    def __str__(self):
+    def __str__(self) -> str:
         if self.stored is None:
             return self.said()
         certain = f"{self.stored} changes are stored for certain; the change that was sent may be stored too"
@@ -125,26 +134,26 @@ class RunEnded(Exception):
 class NoAnswer(RunEnded):
     """No answer came within `timeout` seconds, and the run was stopped."""
 
-    def __init__(self, timeout):
+    def __init__(self, timeout: float | None) -> None:
         super().__init__(None)
         self.timeout = timeout
 
-    def said(self):
+    def said(self) -> str:
         return f"no answer came within {self.timeout} seconds, and the run was stopped"
 
 
 class NotAnAnswer(RunEnded):
     """What came is not an answer, and the run was stopped. `line` is what came."""
 
-    def __init__(self, line):
+    def __init__(self, line: str) -> None:
         super().__init__(None)
         self.line = line
 
-    def said(self):
+    def said(self) -> str:
         return f"what came is not an answer, and the run was stopped: {self.line[:100]!r}"
 
 
-def read_answer(line):
+def read_answer(line: str) -> Accepted | Refused:
     """The answer of a line `ok ..` or `refused ..`: an Accepted or a Refused, which is not raised."""
     words = line.rstrip("\n").split(" ")
     try:

@@ -1,10 +1,13 @@
 """A JSON document held against a type: every place that does not fit, with what was wanted there."""
 
+from __future__ import annotations
+
 from dataclasses import dataclass
+from typing import Any, Iterator, cast
 
 from .json_text import pointer, shown
 from .plans import MOST_DEPTH
-from .types import LEAST_INT, MOST_INT, write_name, write_type
+from .types import LEAST_INT, MOST_INT, Ty, write_name, write_type
 
 
 @dataclass(frozen=True)
@@ -15,16 +18,16 @@ class Misfit:
     wanted: str
     found: str
 
-    def __str__(self):
+    def __str__(self) -> str:
         return f"{pointer(self.path) or '(the document)'}: wanted {self.wanted}, found {self.found}"
 
 
-def is_int(tree):
+def is_int(tree: Any) -> bool:
     """Whether a number is an int of editlens: whole, without fraction or exponent, within 64 bits."""
     return type(tree) is int and LEAST_INT <= tree <= MOST_INT
 
 
-def is_depth_list(depths):
+def is_depth_list(depths: Any) -> bool:
     """Whether a list has the depths of the nodes of a tree in preorder."""
     if not isinstance(depths, list) or not depths or not all(type(it) is int for it in depths):
         return False
@@ -67,7 +70,7 @@ def _is_simple(ty, tree):
     return isinstance(tree, str) and tree in ty.members
 
 
-def misfits(ty, tree, path=()):
+def misfits(ty: Ty, tree: Any, path: tuple[Any, ...] = ()) -> Iterator[Misfit]:
     """Every place at which the tree does not fit the type. There is none if and only if it is a document of the type."""
     if ty.kind == "record" and isinstance(tree, dict):
         for name, inner in ty.fields:
@@ -82,10 +85,10 @@ def misfits(ty, tree, path=()):
         yield from misfits(ty.field(tag), tree[tag], (*path, tag))
     elif ty.kind == "list" and isinstance(tree, list):
         for number, item in enumerate(tree):
-            yield from misfits(ty.inner, item, (*path, number))
+            yield from misfits(cast(Ty, ty.inner), item, (*path, number))
     elif ty.kind == "keyed" and isinstance(tree, dict):
         for key in sorted(tree):
-            yield from misfits(ty.inner, tree[key], (*path, key))
+            yield from misfits(cast(Ty, ty.inner), tree[key], (*path, key))
     elif ty.kind == "tree" and isinstance(tree, dict) and set(tree) == {"depths", "items"}:
         yield from _tree_misfits(ty, tree, path)
     elif ty.kind in ("record", "alternatives", "list", "keyed", "tree") or not _is_simple(ty, tree):
@@ -103,9 +106,9 @@ def _tree_misfits(ty, tree, path):
     if isinstance(depths, list) and len(items) != len(depths):
         yield Misfit((*path, "items"), f"{len(depths)} contents, one for each depth", f"{len(items)}")
     for number, item in enumerate(items):
-        yield from misfits(ty.inner, item, (*path, "items", number))
+        yield from misfits(cast(Ty, ty.inner), item, (*path, "items", number))
 
 
-def fits(ty, tree):
+def fits(ty: Ty, tree: Any) -> bool:
     """Whether the tree is a document of the type."""
     return next(misfits(ty, tree), None) is None

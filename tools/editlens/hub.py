@@ -1,7 +1,10 @@
 """A client of a hub: one document and its views. One line goes in, and one answer comes out."""
 
+from __future__ import annotations
+
 import json
 from dataclasses import dataclass
+from typing import Any
 
 from .answers import NotAnAnswer, Refused, RunEnded, read_answer
 from .causes import Before, explain_refusal
@@ -22,7 +25,7 @@ class HubAccepted:
     views: list
 
 
-def read_hub_answer(line):
+def read_hub_answer(line: str) -> HubAccepted | Refused | Any:
     """The answer of a line of a hub: a HubAccepted, or a Refused that is not raised."""
     if not line.startswith("ok "):
         return read_answer(line)
@@ -42,12 +45,12 @@ class Hub(Run):
     are followed here by the rules of docs/EDITS.md, and `close` compares them with what the program writes at its end.
     """
 
-    def __init__(self, programs, path=None, timeout=None):
+    def __init__(self, programs: list[str], path: str | None = None, timeout: float | None = None) -> None:
         path, programs = path or find_program(), [program_of(it) for it in programs]
         part = joined(programs)
         self._judge(Run("hub", part, path, timeout), part)
         pairs = [check(it, path) for it in programs]
-        self.types = {HUB: pairs[0][0], **{number: right for number, (_, right) in enumerate(pairs)}}
+        self.types: dict[Any, Any] = {HUB: pairs[0][0], **{number: right for number, (_, right) in enumerate(pairs)}}
         self.documents = {at: initial(ty) for at, ty in self.types.items()}
         super().__init__("hub", part, path, timeout)
 
@@ -59,28 +62,28 @@ class Hub(Run):
         if status:
             raise RunEnded(status)
 
-    def edit(self, at, edit):
+    def edit(self, at: Any, edit: Any) -> HubAccepted:
         """Sends an edit of the hub, or of the view with this number."""
         answer = self.line(write_json({"at": at, "edit": edit}))
         if isinstance(answer, Refused):
             raise answer
         return answer
 
-    def line(self, text):
+    def line(self, text: str) -> Any:
         """Sends a line that is not blank, and returns its answer: a HubAccepted, or a Refused that is not raised."""
         with self.lock:
             answer = self.answered(text, read_hub_answer)
             if isinstance(answer, HubAccepted):
-                words = ((HUB, answer.hub), *enumerate(answer.views))
+                words: tuple[Any, ...] = ((HUB, answer.hub), *enumerate(answer.views))
                 self.documents = {at: act(self.types[at], self.documents[at], word) for at, word in words}
             else:
                 before = Before("hub", self.types, self.documents)
                 answer.explain = lambda: explain_refusal(before, text, answer)
             return answer
 
-    def close(self):
+    def close(self) -> Any:
         """Ends the run. Returns the documents as the program writes them, by "hub" and the numbers of the views."""
-        documents = {}
+        documents: dict[Any, Any] = {}
         for line in self.state():
             name, rest = line.split(" ", 1)
             if name == HUB:

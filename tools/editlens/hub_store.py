@@ -1,10 +1,13 @@
 """A client over the commands of `edithub`: a hub that a store keeps, with one run of the program for each call, or one that is kept open."""
 
+from __future__ import annotations
+
 import dataclasses
 import json
 import subprocess
 from collections import namedtuple
 from dataclasses import dataclass
+from typing import Any, Iterable
 
 from .answers import NotAnAnswer, Refused, read_answer
 from .causes import Before, explain_refusal
@@ -24,7 +27,7 @@ class HubState(namedtuple("HubState", "hub views")):
     """The document of a hub, and of each view its document and its complement."""
 
     @property
-    def documents(self):
+    def documents(self) -> dict[Any, Any]:
         """The documents, by "hub" and the numbers of the views."""
         return {HUB: self.hub, **{number: view for number, (view, _) in enumerate(self.views)}}
 
@@ -37,7 +40,7 @@ class HubGroupAccepted:
     parts: tuple
 
 
-def read_kept_answer(line):
+def read_kept_answer(line: str) -> Any:
     """The answer of a line of a hub that is kept: a HubAccepted, a HubGroupAccepted, or a Refused that is not raised."""
     words = line.rstrip("\n").split(" ", 3)
     if words[0] != "ok" or len(words) != 4 or words[2] != "group":
@@ -48,9 +51,11 @@ def read_kept_answer(line):
         raise NotAnAnswer(line) from None
 
 
-def state_of_lines(lines):
+def state_of_lines(lines: Iterable[str]) -> HubState:
     """The HubState of the lines of a state, which may stand behind others."""
-    hub, views, comps = None, [], []
+    hub: Any = None
+    views: list[Any] = []
+    comps: list[Any] = []
     for name, rest in (line.split(" ", 1) for line in lines):
         if name == HUB:
             hub, views, comps = read_json(rest), [], []
@@ -59,12 +64,12 @@ def state_of_lines(lines):
     return HubState(hub, tuple(zip(views, comps)))
 
 
-def state_of_snapshot(tree):
+def state_of_snapshot(tree: Any) -> HubState:
     """The HubState of the tree of a snapshot."""
     return HubState(tree["hub"], tuple((it["view"], it["complement"]) for it in tree["views"]))
 
 
-def stored_programs(path):
+def stored_programs(path: str) -> list[str]:
     """The texts of the lens programs of the views of a stored hub: those of its first record, and of each view that was added."""
     with Log(path) as log:
         trees = [json.loads(it) for it in log.payloads() if kind_of(it) in ("programs", "add")]
@@ -82,30 +87,32 @@ class HubStore(Store):
     read = staticmethod(read_kept_answer)
 
     @classmethod
-    def init(cls, folder, programs, path=None):
+    def init(cls, folder: str, programs: list[str], path: str | None = None) -> HubStore:  # type: ignore[override]
         """Makes a store with a view for each lens program, from their initial documents. The folder is made if it is not there."""
         store = cls._placed(folder, path)
         store._run(["init"], joined(programs))
         return store
 
     @classmethod
-    def open(cls, folder, path=None, wait=0.0, timeout=None):
+    def open(  # type: ignore[override]
+        cls, folder: str, path: str | None = None, wait: float = 0.0, timeout: float | None = None
+    ) -> OpenHub:
         """Keeps the hub in a folder open, as an OpenHub. Another program that writes to it is waited for `wait` seconds."""
         return OpenHub(cls(folder, path), wait, timeout)
 
-    def edit(self, at, edit):
+    def edit(self, at: Any, edit: Any) -> HubAccepted:
         """Sends an edit of the hub, or of the view with this number."""
         return self._accepted({"at": at, "edit": edit})
 
-    def group(self, *edits):
+    def group(self, *edits: tuple[Any, Any]) -> HubGroupAccepted:
         """Sends edits, each "hub" or the number of a view and an edit, that are accepted together or not at all."""
         return self._accepted({"group": [{"at": at, "edit": edit} for at, edit in edits]})
 
-    def add(self, program_text):
+    def add(self, program_text: str) -> HubState:
         """Adds a view. Its document is what its lens makes of the hub's document. Returns the HubState."""
         return self.state(self._run(["add"], program_of(program_text)))
 
-    def undo(self, count=1):
+    def undo(self, count: int = 1) -> dict[Any, Any]:
         """Takes the last changes back, a group as one. Returns the edits that took the documents back, by "hub" and the numbers of the views."""
         back = {}
         for line in self._undone(count):
@@ -114,7 +121,7 @@ class HubStore(Store):
             back[number] = read_json(word)
         return back
 
-    def state(self, said):
+    def state(self, said: list[str]) -> HubState:
         """The HubState of the lines of a state, which may stand behind others."""
         return state_of_lines(said)
 
@@ -127,30 +134,31 @@ class OpenHub(KeptRun):
     compare them with the program's own. `stored` is how many changes the store has. The types of the documents come from `editlens check`.
     """
 
-    def __init__(self, store, wait=0.0, timeout=None):
-        self.types, self.documents = {}, {}
+    def __init__(self, store: HubStore, wait: float = 0.0, timeout: float | None = None) -> None:
+        self.types: dict[Any, Any] = {}
+        self.documents: dict[Any, Any] = {}
         super().__init__(store, wait, timeout)
 
-    def edit(self, at, edit):
+    def edit(self, at: Any, edit: Any) -> HubAccepted:
         """Sends an edit of the hub, or of the view with this number."""
         return self.accepted({"at": at, "edit": edit})
 
-    def group(self, *edits):
+    def group(self, *edits: tuple[Any, Any]) -> HubGroupAccepted:
         """Sends edits, each "hub" or the number of a view and an edit, that are accepted together or not at all."""
         return self.accepted({"group": [{"at": at, "edit": edit} for at, edit in edits]})
 
-    def accepted(self, change):
+    def accepted(self, change: dict[str, Any]) -> Any:
         """Sends a change, and returns its answer; a Refused is raised."""
         answer = self.line(write_json(change))
         if isinstance(answer, Refused):
             raise answer
         return answer
 
-    def add(self, program_text):
+    def add(self, program_text: str) -> None:
         """Adds a view, as `HubStore.add` does: the run is closed for it, and another one is opened."""
         return self._between(lambda: self.store.add(program_text))
 
-    def compare(self):
+    def compare(self) -> Any:
         """Compares the documents with those of the program, by `show`. Raises DocumentsDiffer."""
         with self.lock:
             self._need_same(self.store.show())

@@ -1,6 +1,9 @@
 """A client of a link: two sites that take turns. One event goes in, and one answer comes out."""
 
+from __future__ import annotations
+
 from dataclasses import dataclass
+from typing import Any, Iterable
 
 from .answers import OTHER, NotAnAnswer, Refused
 from .causes import explain_edit, read_line
@@ -36,12 +39,12 @@ class LinkRefused(Refused):
     count: "int | None" = None
 
     @property
-    def written(self):
+    def written(self) -> str:
         """The line, as the program writes it."""
         return super().written if self.count is None else f"{super().written} {self.count}"
 
 
-def read_link_answer(line):
+def read_link_answer(line: str) -> LinkAccepted | LinkRefused:
     """The answer of a line of a link: a LinkAccepted, or a LinkRefused that is not raised."""
     words = line.rstrip("\n").split(" ", 4)
     try:
@@ -49,7 +52,7 @@ def read_link_answer(line):
         if words[0] == "ok" and what == "batch":
             return LinkAccepted(number, what, int(rest[0]), read_json(rest[1]))
         if words[0] == "ok" and (what in WITH_NUMBER and len(rest) == 1 or what in ("draft", "restart") and not rest):
-            return LinkAccepted(number, what, *map(int, rest))
+            return LinkAccepted(number, what, int(rest[0]) if rest else None)
         if words[0] == "refused" and what == "no-apply":
             return LinkRefused(number, rest[1], at=int(rest[0]))
         if words[0] == "refused":
@@ -68,31 +71,32 @@ class Link(Run):
     and `close` compares them with what the program writes at its end.
     """
 
-    def __init__(self, program_text, path=None, timeout=None):
+    def __init__(self, program_text: str, path: str | None = None, timeout: float | None = None) -> None:
         path, part = path or find_program(), program_of(program_text)
         self.types = dict(zip(("left", "right"), check(part, path)))
         self.session = Session(part, path, timeout)
         self.documents, self.complement = dict(self.session.documents), None
-        self.drafts, self.numbers = {"left": [], "right": []}, {"left": 0, "right": 0}
+        self.drafts: dict[str, list[Any]] = {"left": [], "right": []}
+        self.numbers = {"left": 0, "right": 0}
         super().__init__("link", part, path, timeout)
 
-    def edit(self, side, edit):
+    def edit(self, side: str, edit: Any) -> LinkAccepted:
         """Joins an edit to the draft of a site."""
         return self._happens({"edit": [side, edit]})
 
-    def seal(self, side):
+    def seal(self, side: str) -> LinkAccepted:
         """Makes the draft of a site the next batch."""
         return self._happens({"seal": side})
 
-    def send(self, side):
+    def send(self, side: str) -> LinkAccepted:
         """Makes the last batch of a site a packet. Returns the answer, whose value is the number of the packet."""
         return self._happens({"send": side})
 
-    def deliver(self, packet):
+    def deliver(self, packet: int) -> LinkAccepted:
         """Lets a packet arrive, once more if it did."""
         return self._happens({"deliver": packet})
 
-    def restart(self, side):
+    def restart(self, side: str) -> LinkAccepted:
         """Lets a site lose its draft."""
         return self._happens({"restart": side})
 
@@ -102,7 +106,7 @@ class Link(Run):
             raise answer
         return answer
 
-    def line(self, text):
+    def line(self, text: str) -> LinkAccepted | LinkRefused:
         """Sends a line that is not blank, and returns its answer: a LinkAccepted, or a LinkRefused that is not raised."""
         with self.lock:
             answer = self.answered(text, read_link_answer)
@@ -129,12 +133,12 @@ class Link(Run):
             side = "right" if answer.value % 2 else "left"
             self.documents[side], self.numbers[side] = self.session.documents[side], answer.value
 
-    def stop(self):
+    def stop(self) -> None:
         """Stops the run at once. What it would still say is lost."""
         self.session.stop()
         super().stop()
 
-    def close(self):
+    def close(self) -> Any:
         """Ends the run. Returns the documents of the left and of the right site, and the complement, as the program writes them."""
         state = dict(line.split(" ", 1) for line in self.state())
         self.session.stop()
@@ -145,7 +149,7 @@ class Link(Run):
         return left, right, self.complement
 
 
-def explain_event(types, drafted, line, answer):
+def explain_event(types: dict[str, Any], drafted: dict[str, Any], line: str, answer: LinkRefused) -> Iterable[str]:
     """The lines that explain why an event is refused. `drafted` are the documents of the sites with their drafts."""
     tree, said = read_line(line, answer)
     if said:

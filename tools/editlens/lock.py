@@ -4,6 +4,8 @@ The commands that write (init, import, apply, pack, undo) take the same locks th
 the store's open file. So a command that writes ends with status 7 in a folder that a StoreLock holds. `show` and `verify` take no lock.
 """
 
+from __future__ import annotations
+
 import contextlib
 import fcntl
 import os
@@ -20,7 +22,7 @@ LOCKS = "/proc/locks"
 class StoreBusy(Exception):
     """Another program is writing to the store."""
 
-    def __init__(self, folder):
+    def __init__(self, folder: str) -> None:
         super().__init__(f"another program is writing to the store in {folder}: wait until it ends, or stop it; nothing was read or written")
         self.folder = folder
 
@@ -34,18 +36,19 @@ class StoreLock:
     kernel gives the locks back when the process ends, in whatever way.
     """
 
-    def __init__(self, folder, wait=0.0):
+    def __init__(self, folder: str, wait: float = 0.0) -> None:
         self.folder, self.wait = folder, wait
-        self._held, self._files = None, {}
+        self._held: contextlib.ExitStack | None = None
+        self._files: dict[str, int | None] = {}
 
-    def __enter__(self):
+    def __enter__(self) -> StoreLock:
         self.take()
         return self
 
-    def __exit__(self, *_):
+    def __exit__(self, *_: object) -> None:
         self.give_back()
 
-    def take(self):
+    def take(self) -> None:
         """Takes the locks, and keeps them. The descriptors are not inherited by programs that are started meanwhile."""
         if self._held is not None:
             raise ValueError("this lock is held already")
@@ -69,14 +72,14 @@ class StoreLock:
             self._held, self._files = held.pop_all(), files
             return True
 
-    def need_same(self, path):
+    def need_same(self, path: str) -> None:
         """Raises UnsafeFile where the path of a store leads to another file than when the lock was taken: what is there now is not locked."""
         if self._files[path] is not None:
             need_same(path, self._files[path])
         elif os.path.lexists(path):
             raise FileExistsError(f"{path} was made by another program meanwhile")
 
-    def give_back(self):
+    def give_back(self) -> None:
         """Gives the locks back, where they are held."""
         if self._held is not None:
             self._held.close()
@@ -97,7 +100,7 @@ def _is_taken(descriptor):
     return True
 
 
-def is_busy(folder):
+def is_busy(folder: str) -> bool:
     """Whether a program is seen that holds the lock on a folder, or on a store in it, now.
 
     A lock of another container is not listed, nor is one on some file systems: where nobody is seen, somebody may hold it all the same.

@@ -4,29 +4,33 @@ import os
 import shutil
 
 TOP = os.path.dirname(os.path.dirname(os.path.dirname(os.path.abspath(__file__))))
+INSTALLED = (TOP, os.path.join(os.path.dirname(TOP), "editlens"))
+"""The folders in which an installed program may be: lib/editlens/, which is above the tools, or beside the libraries of Python."""
 NOT_SOURCES = ("out", "must-fail")
 
 
 class NoProgram(Exception):
     """There is no program to run."""
 
-    def __init__(self, name="editlens"):
-        made = "run ./build, or ./editlens run once, which builds an unproved one" if name == "editlens" else f"run ./build --{name}"
-        super().__init__(f"there is no program: {made}, or name one by {name.upper()}")
+    def __init__(self, name: str = "editlens") -> None:
+        super().__init__(f"there is no program: run ./build, or ./{name} run once, which builds an unproved one, or name one by {name.upper()}")
 
 
-def proved(name="editlens"):
+def proved(name: str = "editlens") -> str:
     """Where a program is that is installed or proved."""
-    installed = os.path.join(TOP, f"{name}-program")
-    return installed if os.path.exists(installed) else os.path.join(TOP, "crates", name, "out", name)
+    for folder in INSTALLED:
+        installed = os.path.join(folder, f"{name}-program")
+        if os.path.exists(installed):
+            return installed
+    return os.path.join(TOP, "crates", name, "out", name)
 
 
-def kept(name="editlens"):
+def kept(name: str = "editlens") -> str:
     """Where a program is that was built without proofs."""
     return os.path.join(TOP, ".unproved", name)
 
 
-def newest_source():
+def newest_source() -> float:
     """The time of the last change of a source."""
     newest = os.path.getmtime(os.path.join(TOP, "crates.txt"))
     for folder, folders, names in os.walk(os.path.join(TOP, "crates")):
@@ -36,7 +40,7 @@ def newest_source():
     return newest
 
 
-def find_program(name="editlens"):
+def find_program(name: str = "editlens") -> str:
     """The path of a program: what EDITLENS names (EDITHUB for `edithub`), the proved one, the unproved one if no source is newer, or one on
     the PATH."""
     named = os.environ.get(name.upper())

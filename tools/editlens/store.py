@@ -1,9 +1,12 @@
 """A client over the commands of a store: each call is one run of the program in the store's folder."""
 
+from __future__ import annotations
+
 import os
 import subprocess
+from typing import Any, Callable, Iterable
 
-from .answers import Explained, Refused, RunEnded, read_answer
+from .answers import Accepted, Explained, Refused, RunEnded, read_answer
 from .checked import check, program_refused
 from .documents import misfits
 from .json_text import read_json, write_json
@@ -29,12 +32,12 @@ ADVICE = {
 class StoreRefused(Explained):
     """The store is refused. `reason` is what stands behind `store refused:`."""
 
-    def __init__(self, reason, file=None):
+    def __init__(self, reason: str, file: str | None = None) -> None:
         super().__init__(reason)
         self.reason, self.file = reason, file
         self.explain = self._explanation
 
-    def said(self):
+    def said(self) -> str:
         """The line without its explanation."""
         return f"store refused: {self.reason}"
 
@@ -48,11 +51,11 @@ class StoreRefused(Explained):
 class ImportRefused(Explained):
     """The document that a store was to begin with is refused. `reason` is what stands behind `import refused:`."""
 
-    def __init__(self, reason, explain=None):
+    def __init__(self, reason: str, explain: Callable[[], Iterable[str]] | None = None) -> None:
         super().__init__(reason)
         self.reason, self.explain = reason, explain
 
-    def said(self):
+    def said(self) -> str:
         """The line without its explanation."""
         return f"import refused: {self.reason}"
 
@@ -71,19 +74,19 @@ class Store:
     name, command = NAME, "editlens"
     read = staticmethod(read_answer)
 
-    def __init__(self, folder, path=None):
+    def __init__(self, folder: str, path: str | None = None) -> None:
         self.folder = folder
         self.path = path or find_program(self.command)
 
     @classmethod
-    def init(cls, folder, program_text, path=None):
+    def init(cls, folder: str, program_text: str, path: str | None = None) -> Store:
         """Makes a store that begins with the initial documents of a lens program. The folder is made if it is not there."""
         store = cls._placed(folder, path)
         store._run(["init"], program_text)
         return store
 
     @classmethod
-    def begin(cls, folder, program_text, left, path=None):
+    def begin(cls, folder: str, program_text: str, left: Any, path: str | None = None) -> Store:
         """Makes a store that begins with this left document, by the command `import`. Its first change makes the document."""
         store, program = cls._placed(folder, path), program_of(program_text).rstrip("\n")
         try:
@@ -95,7 +98,7 @@ class Store:
         return store
 
     @classmethod
-    def open(cls, folder, path=None, wait=0.0, timeout=None, forms=None):
+    def open(cls, folder: str, path: str | None = None, wait: float = 0.0, timeout: float | None = None, forms: dict[str, Any] | None = None) -> OpenStore:
         """Keeps the store in a folder open, as an OpenStore. Another program that writes to it is waited for `wait` seconds.
 
         Where `timeout` is given, no answer to an edit is waited for longer than so many seconds. Opening takes as long as it takes to read
@@ -108,19 +111,19 @@ class Store:
         os.makedirs(folder, exist_ok=True)
         return cls(folder, path)
 
-    def left(self, edit):
+    def left(self, edit: Any) -> Accepted:
         """Sends an edit of the left document."""
         return self.entry("left", edit)
 
-    def right(self, edit):
+    def right(self, edit: Any) -> Accepted:
         """Sends an edit of the right document."""
         return self.entry("right", edit)
 
-    def entry(self, side, edit):
+    def entry(self, side: str, edit: Any) -> Accepted:
         """Sends an edit of a side."""
         return self._accepted({"side": side, "edit": edit})
 
-    def group(self, *entries):
+    def group(self, *entries: tuple[str, Any]) -> Any:
         """Sends entries, each a side and an edit, that are accepted together or not at all."""
         return self._accepted({"group": [{"side": side, "edit": edit} for side, edit in entries]})
 
@@ -130,7 +133,7 @@ class Store:
             raise answer
         return answer
 
-    def apply(self, lines):
+    def apply(self, lines: Iterable[str]) -> list[Any]:
         """Sends lines of a journal, and returns the answers to those that are not blank: each an Accepted, or a Refused that is not raised.
 
         If the run ends early, RunEnded is raised. Its `answers` are those that came before; the changes that they accept are stored.
@@ -145,19 +148,19 @@ class Store:
             raise
         return answers
 
-    def show(self):
+    def show(self) -> Any:
         """The left document, the right document and the complement."""
         return self.state(self._run(["show"]))
 
-    def verify(self):
+    def verify(self) -> int:
         """How many changes were accepted."""
         return int(self._run(["verify"])[0].removeprefix("consistent "))
 
-    def pack(self):
+    def pack(self) -> int:
         """Stores a snapshot, and returns how many changes were accepted."""
         return int(self._run(["pack"])[0].removeprefix("packed "))
 
-    def undo(self, count=1):
+    def undo(self, count: int = 1) -> Any:
         """Takes the last changes back, a group as one. Returns the edits that took the left and the right document back.
 
         Changes before the last snapshot stay, and `pack` and `undo` store one. If there are too few, StoreRefused is raised.
@@ -172,16 +175,16 @@ class Store:
         return [line for line in self._run(["undo", str(count)]) if line.startswith("undo ")]
 
     @property
-    def file(self):
+    def file(self) -> str:
         """The path of the store."""
         return os.path.join(self.folder, self.name)
 
-    def state(self, said):
+    def state(self, said: list[str]) -> Any:
         """The left document, the right document and the complement of the lines of a state, which may stand behind others."""
         state = dict(line.split(" ", 1) for line in said[-3:])
         return read_json(state["left"]), read_json(state["right"]), read_json(state["complement"])
 
-    def judge(self, status, said):
+    def judge(self, status: int | None, said: list[str]) -> None:
         """Raises the exception of a status, by the lines that the program has written."""
         last = said[-1] if said else ""
         if status == 4:

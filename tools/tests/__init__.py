@@ -5,16 +5,4 @@ PATIENCE = 3600
 
 
 class Skipped(Exception):
-    """A test that cannot run here, with the reason."""
-
-    names = {}
-    """The names of the tests that were skipped, by their reasons."""
-
-    def note(self, name):
-        """Remembers that a test was skipped for this reason."""
-        Skipped.names.setdefault(str(self), []).append(name)
-
-    @staticmethod
-    def lines():
-        """A line for each reason, with the tests that were skipped for it."""
-        return [f"skipped: {why}: {', '.join(names)}" for why, names in Skipped.names.items()]
+    """A test that cannot run here, with the reason. A package that is missing is named as Debian names it, as dev/setup does too."""

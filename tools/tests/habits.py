@@ -1,8 +1,10 @@
 """The files around the program that say again what the pages say: the manual page, completion, highlighters and the changelog."""
 
+import ast
 import json
 import os
 import re
+import shutil
 import subprocess
 import sys
 from importlib.util import find_spec
@@ -14,16 +16,17 @@ from . import Skipped
 
 sys.path.insert(0, os.path.join(TOP, "dev"))
 
-from repository.manual import PAGE, manual, version  # noqa: E402
+from repository.manual import HUBS, PAGE, manual, version  # noqa: E402
 from repository.pages import read_page, roff, section, table_with  # noqa: E402
-
+from repository.tools import tools  # noqa: E402
 
 NEEDS_PROGRAM = False
+TYPED = ("answers", "documents", "hub", "hub_store", "json_text", "link", "lock", "parts", "program", "store", "version")
 
 
-def commands():
-    """The words that name a command, by docs/FORMATS.md."""
-    table = table_with(section(read_page("docs/FORMATS.md"), "Commands"), "Words")
+def commands(heading="Commands"):
+    """The words that name a command, by a section of docs/FORMATS.md."""
+    table = table_with(section(read_page("docs/FORMATS.md"), heading), "Words")
     return {row[0].strip("`").split()[0] for row in table.rows if row[0].startswith("`")}
 
 
@@ -39,13 +42,32 @@ def test_markdown_for_a_manual_page():
     assert table_with(section(page, "Two"), "A").rows == (("1", "2"),)
 
 
-def test_completion_knows_every_command():
-    bash, zsh = read_page("completions/editlens.bash"), read_page("completions/_editlens")
-    offered = set(re.search(r'compgen -W "([^"]*)"', bash)[1].split())
-    assert offered == commands() | {"--help", "--version"}, offered
-    assert set(re.findall(r"(?m)^    '(\w+):", zsh)) == commands()
-    words = "source completions/editlens.bash; COMP_WORDS=(editlens un); COMP_CWORD=1; _editlens; echo ${COMPREPLY[*]}"
-    assert subprocess.run(["bash", "-c", words], cwd=TOP, stdout=subprocess.PIPE, text=True).stdout == "undo\n"
+def completed(*words):
+    """What completion for bash offers for the last of these words."""
+    script = f"source completions/editlens.bash; COMP_WORDS=({' '.join(words)}); COMP_CWORD={len(words) - 1}; _editlens; echo ${{COMPREPLY[*]}}"
+    words = ["bash", "-c", script.replace("''", '""')]
+    return set(subprocess.run(words, cwd=TOP, stdout=subprocess.PIPE, text=True, check=True).stdout.split())
+
+
+def test_completion_knows_every_command_and_every_tool():
+    verbs = {"history", "compact", "back", "backup", "restore", "change-lens"}
+    assert completed("./editlens", "''") == commands() | set(tools()) | verbs | {"hub-store", "--help", "--version"}
+    assert completed("./edithub", "''") == commands(HUBS) | {"--help", "--version"}
+    assert completed("./editlens", "hub-store", "''") == commands(HUBS)
+    assert completed("./editlens", "store", "''") == verbs | {"check", "import"}
+    assert completed("./editlens", "un") == {"undo"}
+    of_editlens, of_edithub = read_page("completions/_editlens").split("hub_commands=(")
+    assert set(re.findall(r"(?m)^    '(\w+):", of_editlens)) == commands()
+    assert set(re.findall(r"(?m)^    '(\w+):", of_edithub)) == commands(HUBS)
+
+
+def test_the_manual_page_has_no_fault_of_form():
+    if not shutil.which("mandoc"):
+        raise Skipped("mandoc is not installed")
+    ran = subprocess.run(["mandoc", "-T", "lint", "-W", "error", PAGE], cwd=TOP, stdout=subprocess.PIPE, stderr=subprocess.STDOUT, text=True, check=False)
+    assert (ran.returncode, ran.stdout) == (0, ""), ran.stdout
+    page = read_page(PAGE)
+    assert all(f"\\fB{it}".replace("-", "\\-") in page for it in (*tools(), *commands(HUBS))), "a tool or a command is missing"
 
 
 def test_highlighters_know_every_keyword():
@@ -59,7 +81,7 @@ def test_the_lexer_knows_every_token():
     try:
         from pygments.token import Error, Keyword
     except ImportError:
-        raise Skipped("there is no library pygments") from None
+        raise Skipped("python3-pygments is not installed") from None
     sys.path.insert(0, os.path.join(TOP, "editors"))
     from pygments_editlens import EditlensLexer
 
@@ -73,7 +95,7 @@ def test_the_lexer_knows_every_token():
 
 def test_the_picture_of_the_program_is_drawn_anew():
     if find_spec("pygments") is None:
-        raise Skipped("there is no library pygments")
+        raise Skipped("python3-pygments is not installed")
     drawn = subprocess.run([os.path.join(TOP, "docs", "highlight"), "--print"], stdout=subprocess.PIPE, text=True, check=True)
     assert read_page("docs/program.svg") == drawn.stdout, "run docs/highlight"
 
@@ -91,3 +113,16 @@ def test_the_tools_print_the_version():
 def test_the_changelog_has_the_version():
     assert re.fullmatch(r"\d+\.\d+\.\d+", version()), version()
     assert re.search(rf"(?m)^## {re.escape(version())} - \d{{4}}-\d\d-\d\d$", read_page("CHANGELOG.md")), version()
+
+
+def test_public_functions_have_hints_of_types():
+    """Those of the modules for whoever keeps documents in Python. docs/check asks mypy whether they are right."""
+    modules = [f"tools/editlens/{it}.py" for it in TYPED] + [f"bindings/python/{it}.py" for it in ("editlens_library", "editlens_hub")]
+    lacking = []
+    for path in modules:
+        for it in ast.walk(ast.parse(read_page(path))):
+            if isinstance(it, ast.FunctionDef) and not it.name.startswith("_"):
+                given = [*it.args.posonlyargs, *it.args.args, *it.args.kwonlyargs]
+                if it.returns is None or any(each.annotation is None for each in given if each.arg not in ("self", "cls")):
+                    lacking.append(f"{path}: {it.name}")
+    assert not lacking, lacking

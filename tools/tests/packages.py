@@ -1,6 +1,5 @@
 """What `./build --install` and `./build --package` make: the files, and that they run without the repository and without Rattle."""
 
-import hashlib
 import os
 import re
 import shutil
@@ -16,7 +15,8 @@ from . import Skipped
 sys.path.insert(0, os.path.join(TOP, "dev"))
 
 from repository.manual import EXAMPLE as MANUAL_EXAMPLE  # noqa: E402
-from repository.package import install, install_hub, package, tools  # noqa: E402
+from repository.package import Built, archive, install  # noqa: E402
+from repository.tools import tools  # noqa: E402
 
 EXAMPLE = os.path.join(TOP, "examples", "tasks")
 PLAIN = {"PATH": "/usr/bin:/bin"}
@@ -39,11 +39,12 @@ def test_an_installed_program_runs_with_the_c_library_alone():
     if not unshare or not chroot or not shutil.which("ldd"):
         raise Skipped("there is no unshare, chroot or ldd")
     with tempfile.TemporaryDirectory() as root:
-        install(find_program(), os.path.join(root, "usr"))
+        install({"editlens": find_program()}, os.path.join(root, "usr"))
         for path in libraries(find_program()):
             os.makedirs(os.path.dirname(root + path), exist_ok=True)
             shutil.copy(path, root + path)
         inside = [unshare, "--map-root-user", chroot, root]
+        inside = [chroot, root] if os.geteuid() == 0 else inside
         if subprocess.run([*inside, "/usr/lib/editlens/editlens-program"], stdout=subprocess.PIPE, stderr=subprocess.PIPE).returncode != 2:
             raise Skipped("no process may have a root of its own here")
         words = [*inside, "/usr/lib/editlens/editlens-program", "run"]
@@ -53,7 +54,7 @@ def test_an_installed_program_runs_with_the_c_library_alone():
 
 def test_installed_tools_run_the_installed_program():
     with tempfile.TemporaryDirectory() as room:
-        script = install(find_program(), os.path.join(room, "prefix"))
+        script = install({"editlens": find_program()}, os.path.join(room, "prefix"))
         assert script == os.path.join(room, "prefix", "bin", "editlens")
         explain = os.path.join(room, "prefix", "bin", "editlens-explain")
         ran = subprocess.run([sys.executable, "-B", explain, EXAMPLE + ".script"], stdout=subprocess.PIPE, text=True, cwd=room, env=PLAIN)
@@ -66,7 +67,7 @@ def test_a_program_is_installed_over_another():
         for said in ("first", "second"):
             with open(source, "w", encoding="utf-8") as file:
                 file.write(f"#!/bin/sh\necho {said}\n")
-            script = install(source, os.path.join(room, "prefix", "bin"))
+            script = install({"editlens": source}, os.path.join(room, "prefix", "bin"))
             assert script == os.path.join(room, "prefix", "bin", "editlens"), "a folder bin means the folder above it"
             copy = os.path.join(room, "prefix", "lib", "editlens", "editlens-program")
             assert subprocess.run([copy], stdout=subprocess.PIPE, text=True, check=True).stdout == said + "\n"
@@ -78,18 +79,15 @@ def test_edithub_is_installed_beside_the_tools():
         source = os.path.join(room, "program")
         with open(source, "w", encoding="utf-8") as file:
             file.write("#!/bin/sh\necho this hub\n")
-        name = install_hub(source, os.path.join(room, "prefix"))
+        name = install({"edithub": source}, os.path.join(room, "prefix"))
         assert name == os.path.join(room, "prefix", "bin", "edithub"), name
         os.remove(source)
         assert subprocess.run([name], stdout=subprocess.PIPE, text=True, check=True).stdout == "this hub\n"
 
 
 def test_an_installed_script_runs_the_installed_program():
-    with open(os.path.join(TOP, "editlens"), encoding="utf-8") as script:
-        if "editlens-program" not in script.read():
-            raise Skipped("the script ./editlens looks for no installed program")
     with tempfile.TemporaryDirectory() as room:
-        script = install(find_program(), room)
+        script = install({"editlens": find_program()}, room)
         ran = subprocess.run([script, "run"], input=example("script"), stdout=subprocess.PIPE, cwd=room, env=PLAIN)
         assert (ran.returncode, ran.stdout) == (1, example("out")), ran
 
@@ -110,21 +108,19 @@ def test_an_archive_has_what_is_installed_and_says_what_is_proved():
         with open(program, "w", encoding="utf-8") as file:
             file.write("#!/bin/sh\n")
         os.chmod(program, 0o755)
-        path = package(program, os.path.join(room, "out"), is_proved=False)
-        with open(path, "rb") as file:
-            data = file.read()
-        with open(path + ".sha256", encoding="utf-8") as file:
-            assert file.read() == f"{hashlib.sha256(data).hexdigest()}  {os.path.basename(path)}\n"
-        with tarfile.open(path) as archive:
-            archive.extractall(room)
+        built = Built({"editlens": program, "edithub": program})
+        name, data = archive(built)
+        path = os.path.join(room, name)
+        with open(path, "wb") as file:
+            file.write(data)
+        with tarfile.open(path) as found:
+            found.extractall(room)
         root = os.path.join(room, os.path.basename(path).removesuffix(".tar.xz"))
         with open(os.path.join(root, "PROVED"), encoding="utf-8") as file:
             assert "not proved by this build" in file.read()
         assert "fits" in tools() and "check" not in tools()
-        for name in ("lib/editlens/editlens-program", "bin/editlens", *(f"bin/editlens-{it}" for it in tools())):
+        for name in ("lib/editlens/editlens-program", "lib/editlens/edithub-program", "bin/editlens", "bin/edithub", *(f"bin/editlens-{it}" for it in tools())):
             assert os.access(os.path.join(root, name), os.X_OK), name
         for name in ("share/man/man1/editlens.1", "share/zsh/site-functions/_editlens", "examples/tasks.out", "LICENSE", "INSTALL"):
             assert os.path.getsize(os.path.join(root, name)), name
-        again = package(program, os.path.join(room, "again"), is_proved=False)
-        with open(again, "rb") as file:
-            assert file.read() == data, "two archives of the same files differ"
+        assert archive(built) == (os.path.basename(path), data), "two archives of the same files differ"

@@ -25,7 +25,7 @@ def patched(document, patch):
     The library changes no text or number that is a whole document. So the document is a member here, and every pointer goes into it.
     """
     if jsonpatch is None:
-        raise Skipped("the library jsonpatch is not installed")
+        raise Skipped("python3-jsonpatch is not installed")
     inside = [{**op, **{name: "/all" + op[name] for name in ("path", "from") if name in op}} for op in copy.deepcopy(patch)]
     try:
         after = jsonpatch.apply_patch({"all": copy.deepcopy(document)}, inside)

@@ -37,7 +37,7 @@ def write(path, text):
 def repository(edits):
     """A repository with these files and a copy of dev/. Yields a call that runs dev/plant there: its status and its lines."""
     if not shutil.which("git"):
-        raise Skipped("there is no git")
+        raise Skipped("git is not installed")
     with tempfile.TemporaryDirectory() as folder:
         top = os.path.join(folder, "top")
         shutil.copytree(os.path.join(TOP, "dev"), os.path.join(top, "dev"), ignore=shutil.ignore_patterns("__pycache__"))

@@ -79,7 +79,7 @@ class Queue:
 @contextmanager
 def queue(given=None, is_lasting=False):
     if not server.is_installed():
-        raise Skipped("there is no redis-server")
+        raise Skipped("redis-server is not installed")
     with server.Server(is_lasting) as running, tempfile.TemporaryDirectory() as folder:
         yield Queue(running, folder, lines() if given is None else given)
 

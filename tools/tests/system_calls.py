@@ -136,7 +136,7 @@ class Trace:
 def reason_to_skip():
     """Why no run can be traced here, or None."""
     if not shutil.which("strace"):
-        return "there is no strace"
+        return "strace is not installed"
     tried = subprocess.run(["strace", "-f", "-o", os.devnull, "true"], stderr=subprocess.DEVNULL, check=False)
     return "strace may trace no program here" if tried.returncode else None
 
