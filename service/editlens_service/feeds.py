@@ -43,11 +43,15 @@ class Event:
         return f'id: {self.number}\nevent: change\ndata: {{"edit":{self.words[place]},{more[1:]}\n\n'.encode()
 
 
+def entry_of(row: "asyncpg.Record") -> str:
+    """How the author of a row named it: the Idempotency-Key, and the place of the line in the request."""
+    return row["entry_id"].removeprefix(f"{row['author']}/")
+
+
 def event_of(row: "asyncpg.Record") -> Event:
     """The event of a row of the log."""
     words = None if row["words"] is None else tuple(write_json(it) for it in read_json(row["words"]))
-    entry = row["entry_id"].removeprefix(f"{row['author']}/")
-    return Event(row["number"], words, row["side"], row["author"], entry, row["kind"])
+    return Event(row["number"], words, row["side"], row["author"], entry_of(row), row["kind"])
 
 
 class Feed:

@@ -9,11 +9,10 @@ from aiohttp import web
 from editlens.json_text import NotJson, read_json, write_json
 from editlens.natural import NoCounterpart, NotWritable, read_file, read_form, to_edit, to_patch, write_file
 from editlens.private import PrivateLoss, need_no_loss
-from library_session import Session
 
 from .. import tables
 from ..drafts import Draft, Kept, Made, step_all
-from ..engine import HUB, OTHER, SIDES, PairState, line_of
+from ..engine import HUB, OTHER, PairState, SIDES, Session, line_of
 from ..problems import Conflict, Gone, NotFound, Problem, Refused, TooLarge, cause_of
 from .pairs import etag, said
 from .requests import About, about, body_of, change_of, json_of, member, need_type

@@ -15,11 +15,11 @@ from editlens.load import DoesNotFit, load_words
 from editlens.natural import FormFault, read_form, to_file, write_file
 from editlens.natural.places import NotWritable
 from editlens.types import write_type
-from library_session import Session
 
 from .. import tables
 from ..drafts import Change, Kept
-from ..engine import SIDES, DocumentRefused, HubState, PairState, ProgramRefused, base_of
+from ..engine import DocumentRefused, HubState, PairState, ProgramRefused, SIDES, Session, base_of
+from ..feeds import entry_of
 from ..problems import Conflict, KeyReused, NotFound, Problem, Refused
 from .requests import About, Service, about, body_of, change_of, json_of, member, names_of, need_type, number_of, who_of, SERVICE
 
@@ -225,7 +225,7 @@ async def history(request: web.Request) -> web.Response:
     changes = []
     for row in rows:
         words = read_json(row["words"]) if row["words"] else None
-        one = {"number": row["number"], "kind": row["kind"], "side": row["side"], "author": row["author"], "at": row["at"].isoformat()}
+        one = {name: row[name] for name in ("number", "kind", "side", "author")} | {"entry": entry_of(row), "at": row["at"].isoformat()}
         changes.append({**one, "edit": words[place] if words and place < len(words) else None})
     return said({"changes": changes, "next": rows[-1]["number"] if len(rows) == limit else None})
 

@@ -13,10 +13,9 @@ from editlens.json_text import read_json, write_json
 from editlens.load import load_words
 from editlens.relens import Fitting
 from editlens.types import write_type
-from library_session import Session
 
 from ..drafts import Draft, Kept, Made
-from ..engine import SIDES, PairState, ProgramRefused
+from ..engine import PairState, ProgramRefused, SIDES, Session
 from ..problems import Conflict, Refused
 from .edits import _shown
 from .pairs import program_problem, said
