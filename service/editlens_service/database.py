@@ -23,6 +23,9 @@ AWAY = (
 )
 """What is raised where the server went away, is starting, is full, or gave a transaction up. Nothing is known of what was sent then."""
 
+SESSION = {"jit": "off", "application_name": "editlens"}
+"""The settings of each connection. Statements of one pair are short, and compiling them takes far longer than running them."""
+
 PAUSES = (0.02, 0.05, 0.1, 0.2, 0.5, 1.0)
 
 
@@ -48,7 +51,13 @@ class Database:
     async def open(self) -> None:
         """Makes the pool. It connects when it is used, so a worker starts also while the database is away."""
         self.pool = await asyncpg.create_pool(
-            self.dsn, min_size=0, max_size=self.connections, connection_class=Connection, command_timeout=self.seconds, timeout=self.seconds
+            self.dsn,
+            min_size=0,
+            max_size=self.connections,
+            connection_class=Connection,
+            command_timeout=self.seconds,
+            timeout=self.seconds,
+            server_settings=SESSION,
         )
 
     async def close(self) -> None:

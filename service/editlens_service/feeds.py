@@ -15,7 +15,7 @@ from typing import Any
 import asyncpg
 
 from . import tables
-from .database import AWAY, Away, Connection, Database
+from .database import AWAY, SESSION, Away, Connection, Database
 from editlens.json_text import read_json, write_json
 
 CHANNEL = "editlens"
@@ -165,7 +165,7 @@ class Feeds:
         while True:
             ended = asyncio.Event()
             try:
-                connection = await asyncpg.connect(self.database.dsn, connection_class=Connection, timeout=self.database.seconds)
+                connection = await asyncpg.connect(self.database.dsn, connection_class=Connection, timeout=self.database.seconds, server_settings=SESSION)
             except AWAY:
                 await asyncio.sleep(AGAIN_PAUSE)
                 continue
