@@ -5,6 +5,9 @@ from __future__ import annotations
 from dataclasses import dataclass, field
 from typing import Any, Awaitable, Callable, Iterable
 
+from editlens.edits import NoApply, act
+from editlens.json_text import pointer, read_json, shown
+
 from .engine import HubState, PairState, Stepped
 
 
@@ -79,5 +82,18 @@ def step_all(kept: Kept, lines: "Iterable[bytes]") -> Made:
             drafts.append(changed(stepped))
             answers.append({"ok": True, "number": kept.number + len(drafts), "rest": stepped.rest, "words": drafts[-1].words})
         else:
-            answers.append({"ok": False, "rest": stepped.rest})
+            answers.append({"ok": False, "rest": stepped.rest, **place_of(kept.state, line, stepped.rest)})
     return Made({"answers": answers}, drafts)
+
+
+def place_of(state: "PairState | HubState", line: bytes, rest: str) -> "dict[str, Any]":
+    """Where a refused edit fails in its document, and what is allowed there. Nothing where the answer names no place in one document."""
+    if not rest.startswith("no-apply "):
+        return {}
+    tree = read_json(line.decode())
+    name = str(tree.get("side", tree.get("at")))
+    try:
+        act(state.types()[name], read_json(state.document(name)), tree["edit"])
+    except NoApply as why:
+        return {"place": pointer(why.path), "found": shown(why.value), "allowed": why.allowed, "document": name}
+    return {}

@@ -22,11 +22,24 @@ async def done(given: argparse.Namespace) -> "list[str]":
     """Does what the verb says, and returns what there is to say."""
     if given.verb == "migrate":
         return [f"ran {name}" for name in await migrate(given.database)] or ["the tables are up to date"]
+    if given.verb == "openapi":
+        return write_description()
     connection = await asyncpg.connect(given.database)
     try:
         return await {"token": make_token, "trim": trim, "snapshot": take_snapshots}[given.verb](connection, given)
     finally:
         await connection.close()
+
+
+def write_description() -> "list[str]":
+    """Writes the description of the service, as its routes have it."""
+    from .web.describe import describe
+    from .web.health import OPENAPI
+
+    with open(OPENAPI, "w", encoding="utf-8") as file:
+        json.dump(describe(), file, indent=1)
+        file.write("\n")
+    return [OPENAPI]
 
 
 async def make_token(connection: asyncpg.Connection, given: argparse.Namespace) -> "list[str]":

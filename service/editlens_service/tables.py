@@ -38,6 +38,10 @@ SELECT number, entry_id, kind, side, words, answer, author, at, back_to FROM rec
 WHERE pair = $1 AND number > $2 ORDER BY number LIMIT $3
 """
 
+LAST_ROWS = """
+SELECT number, kind, side, words FROM records WHERE pair = $1 AND number <= $2 AND number > 0 ORDER BY number DESC LIMIT $3
+"""
+
 BACK = "SELECT number, kind, payload, back_to FROM records WHERE pair = $1 AND number = $2"
 
 REPLY = "SELECT digest, reply FROM requests WHERE pair = $1 AND key = $2"

@@ -25,7 +25,7 @@ MOST_KEPT = 10_000
 
 def digest_of(token: str) -> str:
     """What is kept of a token."""
-    return hashlib.sha256(token.encode()).hexdigest()
+    return hashlib.sha256(token.encode(errors="surrogateescape")).hexdigest()
 
 
 def read_rights(tree: Any) -> "list[dict[str, Any]]":

@@ -2,19 +2,22 @@
 
 from __future__ import annotations
 
+import asyncio
+import gzip
 import json
 import random
 import socket
 import time
+from collections import Counter
 from typing import Any
 
 from .load import PROGRAM
 from .room import Room
 
-COUNT = 10_000
+COUNT, AT_ONCE = 10_000, 60
 MOST_GROWN = 200 << 20
 WORDS = [b"pairs", b"hubs", b"left", b"right", b"edits", b"changes", b"undo", b"store", b"history", b"..", b"%00", b"%2e%2e", b"views", b"0", b"desk", b"program", b"\xff\xfe"]
-METHODS = [b"GET", b"PUT", b"POST", b"PATCH", b"DELETE", b"OPTIONS", b"FOO"]
+METHODS = [b"GET", b"PUT", b"POST", b"POST", b"POST", b"PATCH", b"PATCH", b"DELETE", b"OPTIONS", b"FOO"]
 
 
 def _bodies(chance: random.Random) -> "list[bytes]":
@@ -49,16 +52,31 @@ def _request(chance: random.Random, name: str) -> bytes:
     return chance.choice(METHODS) + b" " + path + b" HTTP/1.1\r\n" + b"\r\n".join(headers) + b"\r\n\r\n" + body
 
 
-def _status(port: int, request: bytes) -> int:
+async def _status(port: int, request: bytes) -> int:
     """The status of the response to a request, or 0 where the connection was closed without one."""
-    with socket.create_connection(("127.0.0.1", port), timeout=60) as there:
-        try:
-            there.sendall(request)
-            there.shutdown(socket.SHUT_WR)
-            said = there.recv(64)
-        except (ConnectionError, BrokenPipeError):
-            return 0
+    reader, writer = await asyncio.open_connection("127.0.0.1", port)
+    try:
+        writer.write(request)
+        said = await asyncio.wait_for(reader.readline(), 60)
+        while said.startswith(b"HTTP/1.1 100"):
+            await reader.readline()
+            said = await asyncio.wait_for(reader.readline(), 60)
+    except ConnectionError:
+        return 0
+    finally:
+        writer.transport.abort()
     return int(said.split(b" ")[1]) if said.startswith(b"HTTP/1") else 0
+
+
+async def _statuses(port: int, requests: "list[bytes]") -> "list[int]":
+    """The statuses of the responses to requests, many at once."""
+    turns = asyncio.Semaphore(AT_ONCE)
+
+    async def one(request: bytes) -> int:
+        async with turns:
+            return await _status(port, request)
+
+    return await asyncio.gather(*map(one, requests))
 
 
 def _ready(room: Room) -> "tuple[str, Any, Any]":
@@ -72,14 +90,15 @@ def _ready(room: Room) -> "tuple[str, Any, Any]":
 def test_malformed_requests(room: Room) -> None:
     """10,000 requests at random: none is a fault of the service, and the pair is as it was but for what was well after all."""
     name, left, worker = _ready(room)
-    chance, counts = random.Random(room.seed), {}
+    chance = random.Random(room.seed)
     held = worker.memory()
-    for _ in range(COUNT):
-        status = _status(worker.port, _request(chance, name))
-        counts[status] = counts.get(status, 0) + 1
+    requests = [_request(chance, name) for _ in range(COUNT)]
+    statuses = asyncio.run(_statuses(worker.port, requests))
+    counts = Counter(statuses)
     assert worker.process.poll() is None, "the worker has ended"
-    assert not any(it >= 500 for it in counts), counts
-    assert sum(count for it, count in counts.items() if 400 <= it < 500) > COUNT // 2, counts
+    wrong = [(status, request[:300]) for status, request in zip(statuses, requests) if status >= 500]
+    assert not wrong, (counts, wrong[:3])
+    assert sum(count for it, count in counts.items() if 400 <= it < 500) > COUNT * 0.9, counts
     assert worker.memory() < held + MOST_GROWN, (held, worker.memory())
     document, number = left.read()
     assert [it["number"] for it in left.history()] == list(range(1, number + 1))[:100] and document["hours"] >= 5
@@ -94,7 +113,7 @@ def test_a_body_that_is_too_large(room: Room) -> None:
     """A body over the limit is refused when the limit is reached, told by its length or not."""
     name, left, worker = _ready(room)
     held = worker.memory()
-    assert _status(worker.port, _head(name, b"Content-Length: 99999999")) == 413
+    assert asyncio.run(_status(worker.port, _head(name, b"Content-Length: 99999999"))) == 413
     with socket.create_connection(("127.0.0.1", worker.port), timeout=60) as there:
         there.sendall(_head(name, b"Transfer-Encoding: chunked"))
         sent = 0
@@ -125,11 +144,9 @@ def test_a_body_that_never_ends(room: Room) -> None:
 
 def test_a_packed_body(room: Room) -> None:
     """A body is never unpacked."""
-    import gzip
-
     name, left, worker = _ready(room)
     body = gzip.compress(b" " * (50 << 20))
-    assert _status(worker.port, _head(name, b"Content-Encoding: gzip\r\nContent-Length: %d" % len(body)) + body) == 415
+    assert asyncio.run(_status(worker.port, _head(name, b"Content-Encoding: gzip\r\nContent-Length: %d" % len(body)) + body)) == 415
 
 
 def test_a_slow_stream_is_cut(room: Room) -> None:

@@ -57,6 +57,7 @@ ROUTES = (
     Route("POST", f"/pairs/{{name}}/{SIDE}/edits", edits.entries),
     Route("GET", f"/pairs/{{name}}/{SIDE}/changes", streams.changes),
     Route("GET", f"/pairs/{{name}}/{SIDE}/history", pairs.history),
+    Route("GET", "/pairs/{name}/desk/state", desk.state),
     Route("GET", "/pairs/{name}/desk/{file:.*}", desk.page),
     Route("GET", "/hubs", pairs.listed),
     Route("PUT", "/hubs/{name}", pairs.make),

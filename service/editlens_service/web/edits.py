@@ -82,7 +82,9 @@ def _shown(it: About, reply: "dict[str, Any]", is_earlier: bool) -> web.Response
 
 def _answer(it: About, one: "dict[str, Any]") -> "dict[str, Any]":
     if not one["ok"]:
-        return {"ok": False, **cause_of(one["rest"])}
+        where = {name: one[name] for name in ("place", "found", "allowed") if name in one}
+        is_shown = where and it.who.may("read", it.kind, it.name, one["document"])
+        return {"ok": False, **cause_of(one["rest"]), **(where if is_shown else {})}
     names = SIDES if it.kind == "pair" else (HUB, *map(str, range(64)))
     words = dict(zip(names, read_json(one["words"])))
     shown = {name: word for name, word in words.items() if it.who.may("read", it.kind, it.name, name)}

@@ -8,6 +8,7 @@ from aiohttp import web
 
 from editlens.answers import ProgramRefused as ToolRefused
 from editlens.checked import explain_program
+from editlens.desk.loading import place_of_reason
 from editlens.documents import misfits
 from editlens.json_text import read_json, write_json
 from editlens.load import load_words
@@ -30,10 +31,10 @@ async def check(request: web.Request) -> web.Response:
     try:
         state = PairState.begin(program, {})
     except ProgramRefused as why:
-        return said({"ok": False, "refused": why.reason, "explanation": explain_program(program, why.reason)[1:]})
+        return said({"accepted": False, "lines": explain_program(program, why.reason), **place_of_reason(program, why.reason)})
     types = {side: write_type(ty) for side, ty in state.types().items()}
     state.close()
-    return said({"ok": True, "types": types})
+    return said({"accepted": True, **types})
 
 
 async def change(request: web.Request) -> web.Response:
