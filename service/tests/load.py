@@ -63,6 +63,7 @@ class Actor:
         self.seen: "Seen | None" = None
         self.faults: "list[str]" = []
         self.lost: "list[str]" = []
+        self.has_ended = False
 
     async def begin(self) -> None:
         """Reads the document, and begins to follow it."""
@@ -101,6 +102,12 @@ class Actor:
 
     async def follow(self) -> None:
         """Follows the stream, again and again, until it is cancelled."""
+        try:
+            await self._follow()
+        finally:
+            self.has_ended = True
+
+    async def _follow(self) -> None:
         assert self.copy and self.seen
         while True:
             try:
@@ -138,7 +145,7 @@ async def finish(client: AsyncClient, history: History, actors: "list[Actor]") -
         history.documents[side], number = await document.read()
     history.rows = [Row(it, entries[it], changes[it]) for it in sorted(changes)]
     deadline = time.monotonic() + LAST
-    while any(it.copy and it.copy.number < number for it in actors) and time.monotonic() < deadline:
+    while any(it.copy and it.copy.number < number and not it.has_ended for it in actors) and time.monotonic() < deadline:
         await asyncio.sleep(0.05)
     for it in actors:
         if it.seen and it.copy:

@@ -19,7 +19,7 @@ FOUND = {
 
 
 def _planted(fault: str, room: Room) -> Report:
-    plan = Plan(seconds=min(20.0, room.seconds), pairs=5, clients=10, pause=0.1, seed=room.seed, kills=0.0, cut_each=0.01, program=None)
+    plan = Plan(seconds=min(8.0, room.seconds), pairs=5, clients=10, pause=0.1, seed=room.seed, kills=0.0, cut_each=0.01, program=None)
     plan.worker_program = [PYTHON, os.path.join(HERE, "planted.py"), fault]
     with made_database() as postgres:
         return asyncio.run(run(plan, postgres))
@@ -52,4 +52,4 @@ def test_many_clients_and_strokes_of_fate(room: Room) -> None:
         report = asyncio.run(run(plan, postgres))
     print(f"many clients: {report.line()}", flush=True)
     assert not report.faults, report.faults[:20]
-    assert report.counts["accepted"] > 5 * room.seconds, report.line()
+    assert report.counts["accepted"] > room.seconds, report.line()
