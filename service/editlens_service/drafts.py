@@ -71,7 +71,7 @@ def changed(stepped: Stepped) -> Draft:
 
 
 def step_all(kept: Kept, lines: "Iterable[bytes]") -> Made:
-    """Steps a state by lines, one after another: each is accepted or refused alone."""
+    """Steps a state by lines, one after another: each is accepted or refused alone. The first refusal has its place."""
     answers: "list[dict[str, Any]]" = []
     drafts: "list[Draft]" = []
     for line in lines:
@@ -82,7 +82,8 @@ def step_all(kept: Kept, lines: "Iterable[bytes]") -> Made:
             drafts.append(changed(stepped))
             answers.append({"ok": True, "number": kept.number + len(drafts), "rest": stepped.rest, "words": drafts[-1].words})
         else:
-            answers.append({"ok": False, "rest": stepped.rest, **place_of(kept.state, line, stepped.rest)})
+            is_first = all(it["ok"] for it in answers)
+            answers.append({"ok": False, "rest": stepped.rest, **(place_of(kept.state, line, stepped.rest) if is_first else {})})
     return Made({"answers": answers}, drafts)
 
 

@@ -19,7 +19,7 @@ from .database import AWAY, Away, Database, Patience
 from .drafts import Change, Draft, Kept, Made
 from .engine import KINDS, Unreadable, base_of, line_of
 from .metrics import Metrics
-from .problems import Conflict, Gone, KeyReused, NotNewest, Overloaded
+from .problems import Conflict, Gone, KeyReused, NotNewest, Overloaded, Problem, Refused, of_tree
 from .settings import Settings
 
 Seen = TypeVar("Seen")
@@ -66,11 +66,11 @@ class Keeper:
                     if is_fresh:
                         reply = await self._earlier(pair, change, attempts)
                         if reply is not None:
-                            return reply, True
+                            return well(reply), True
                     made = await self._make(slot, kind, pair, change, is_fresh)
                     attempts[made.reply["first"]] = made.reply
                     await self._store(slot, change, made)
-                    return made.reply, False
+                    return well(made.reply), False
                 except (Collision, asyncpg.UniqueViolationError, asyncpg.DeadlockDetectedError):
                     self.metrics.collisions += 1
                     slot.drop()
@@ -80,6 +80,8 @@ class Keeper:
                     slot.drop()
                     is_fresh = True
                     await patience.rest(why)
+                except (NotNewest, KeyReused, StoredRefusal):
+                    raise
                 except BaseException:
                     slot.drop()
                     raise
@@ -123,9 +125,10 @@ class Keeper:
         if slot is None:
             slot = self.slots[pair] = Slot()
         self.slots.move_to_end(pair)
-        excess = len(self.slots) - self.settings.states
-        for name in [it for it, other in self.slots.items() if excess > 0 and other is not slot and not other.waiting][: max(0, excess)]:
-            self.slots.pop(name).drop()
+        if len(self.slots) > self.settings.states:
+            oldest = next((it for it, other in self.slots.items() if other is not slot and not other.waiting), None)
+            if oldest is not None:
+                self.slots.pop(oldest).drop()
         if slot.waiting >= self.settings.limits.waiting:
             raise Overloaded("too many requests wait for this pair")
         return slot
@@ -164,12 +167,12 @@ class Keeper:
             kept, is_fresh = await self._newest(slot, kind, pair), True
         if change.expected not in (None, kept.number):
             await self._need_newest(pair, change, kept)
-        assert change.work
         before = kept.number
-        made = await change.work(kept)
+        made = await worked(change, kept)
         if not made.drafts and not is_fresh and (await self._newest(slot, kind, pair)).number != before:
             # A refusal counts only if it was decided on the newest state.
-            made = await change.work(slot.kept)  # type: ignore[arg-type]
+            assert slot.kept
+            made = await worked(change, slot.kept)
         assert slot.kept
         made.reply.setdefault("first", slot.kept.number + 1)
         made.reply.setdefault("number", slot.kept.number + len(made.drafts))
@@ -248,6 +251,30 @@ class _Turn:
     async def __aexit__(self, *_: object) -> None:
         self.slot.waiting -= 1
         self.slot.lock.release()
+
+
+class StoredRefusal(Exception):
+    """A refusal that is the reply to a request. `problem` says it."""
+
+    def __init__(self, problem: Problem) -> None:
+        super().__init__(problem.detail)
+        self.problem = problem
+
+
+async def worked(change: Change, kept: Kept) -> Made:
+    """What a change makes of a state. A refusal is a reply, and the state is as before."""
+    assert change.work
+    try:
+        return await change.work(kept)
+    except (Refused, Conflict) as why:
+        return Made({"problem": why.tree()})
+
+
+def well(reply: "dict[str, Any]") -> "dict[str, Any]":
+    """A reply that is not a refusal. Raises StoredRefusal."""
+    if "problem" in reply:
+        raise StoredRefusal(of_tree(reply["problem"]))
+    return reply
 
 
 def opened(kind: str, pair: int, number: int, base: str, rows: "list[asyncpg.Record]") -> Kept:

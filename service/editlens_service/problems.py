@@ -10,7 +10,6 @@ from aiohttp import web
 from editlens.causes import CAUSES
 
 KIND = "application/problem+json"
-STATUS, TITLE = "status", "title"
 
 
 class Problem(Exception):
@@ -22,10 +21,13 @@ class Problem(Exception):
         super().__init__(detail)
         self.detail, self.headers, self.more = detail, headers or {}, more
 
+    def tree(self) -> "dict[str, Any]":
+        """The body of the response."""
+        return {"type": f"urn:editlens:{self.slug}", "title": self.title, "status": self.status, "detail": self.detail, **self.more}
+
     def response(self) -> web.Response:
         """The response that says so."""
-        tree = {"type": f"urn:editlens:{self.slug}", "title": self.title, "status": self.status, "detail": self.detail, **self.more}
-        return web.Response(status=self.status, body=json.dumps(tree).encode(), content_type=KIND, headers=self.headers)
+        return web.Response(status=self.status, body=json.dumps(self.tree()).encode(), content_type=KIND, headers=self.headers)
 
 
 class NoToken(Problem):
@@ -121,6 +123,14 @@ class DatabaseAway(Problem):
     def __init__(self, detail: str) -> None:
         more = "a change may be stored or not: repeat it with the same Idempotency-Key to know"
         super().__init__(f"{detail}; {more}", {"Retry-After": "1"})
+
+
+def of_tree(tree: "dict[str, Any]") -> Problem:
+    """The problem of a body that was stored as the reply to a request."""
+    members = {name: it for name, it in tree.items() if name not in ("type", "title", "status", "detail")}
+    found = Problem(tree["detail"], **members)
+    found.status, found.slug, found.title = tree["status"], tree["type"].removeprefix("urn:editlens:"), tree["title"]
+    return found
 
 
 def cause_of(rest: str) -> "dict[str, Any]":

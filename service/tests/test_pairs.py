@@ -129,6 +129,22 @@ def test_a_patch(room: Room) -> None:
     assert client.pair(name, "right").read()[0]["parcels"][key]["pieces"] == 77
 
 
+def test_a_patch_at_a_worker_that_is_behind(room: Room) -> None:
+    """A patch of what another worker has made is not refused by a worker that has not seen it; a refused patch with a key is answered alike."""
+    program, shop, warehouse = _example("parcels.lens")
+    name = room.name()
+    room.client(0).make(name, program, left=shop, right=warehouse)
+    one, other = room.client(0).pair(name, "left"), room.client(1).pair(name, "left")
+    key = next(iter(shop["orders"]))
+    other.edit([{"at": ["orders", [{"mod": [key, [{"at": ["count", [{"add": 1}]]}]]}]]}])
+    change_new = [{"op": "replace", "path": "/orders/new/count", "value": 3}]
+    refused = raises(Refusal, other.patch, change_new, key="early")
+    assert refused.problem["cause"] == "no-counterpart", refused.problem
+    one.edit([{"at": ["orders", [{"put": "new"}]]}])
+    assert other.patch(change_new).number == 3
+    assert raises(Refusal, one.patch, change_new, key="early").problem == refused.problem
+
+
 def test_undo(room: Room) -> None:
     """Changes are taken back by one change, a second undo goes on behind the first, and streams and stores have it."""
     name, client = _made(room), room.client()

@@ -13,7 +13,7 @@ from aiohttp import web
 
 from ..database import AWAY, Away, Database
 from ..feeds import Feeds
-from ..keeper import Keeper
+from ..keeper import Keeper, StoredRefusal
 from ..metrics import Metrics
 from ..problems import DatabaseAway, Gone, NotFound, Overloaded, Problem, TooLarge
 from ..settings import Settings
@@ -34,7 +34,7 @@ class Route:
     handler: Handler
 
 
-SIDE, VIEW = "{side:left|right}", "{view:\\d{1,2}}"
+SIDE, VIEW = "{side:left|right}", "{view:0|[1-9]\\d?}"
 
 ROUTES = (
     Route("GET", "/healthz", health.healthz),
@@ -106,6 +106,8 @@ async def _answered(request: web.Request, handler: Handler) -> web.StreamRespons
             # The name may belong to another pair by now, which this worker does not know yet.
             request.app[SERVICE].forget(*names_of(request))
             return await handler(request)
+    except StoredRefusal as why:
+        return why.problem.response()
     except Problem as why:
         return _closing(request, why.response())
     except (Away, *AWAY) as why:

@@ -71,7 +71,7 @@ KEYED = (*CHANGING, pairs.make, stores.bring)
 def path_of(path: str) -> "tuple[str, list[str]]":
     """A path as OpenAPI writes it, and the names in it."""
     plain = re.sub(r"\{hub:hub\}", "hub", path)
-    plain = re.sub(r"\{(\w+):[^{}]*(\{[^{}]*\})?[^{}]*\}", r"{\1}", plain)
+    plain = re.sub(r"\{(\w+):[^{}]*\}", r"{\1}", plain)
     return plain, re.findall(r"\{(\w+)\}", plain)
 
 

@@ -13,7 +13,7 @@ from editlens.private import PrivateLoss, need_no_loss
 from .. import tables
 from ..drafts import Draft, Kept, Made, step_all
 from ..engine import HUB, OTHER, PairState, SIDES, Session, line_of
-from ..problems import Conflict, Gone, NotFound, Problem, Refused, TooLarge, cause_of
+from ..problems import Conflict, Gone, NotAllowed, NotFound, Problem, Refused, TooLarge, cause_of
 from .pairs import etag, said
 from .requests import About, about, body_of, change_of, json_of, member, need_type
 
@@ -27,7 +27,7 @@ async def entries(request: web.Request) -> web.Response:
     need_type(request, *JOURNAL)
     body = await body_of(request)
     lines = [_of_document(it, line) for line in _lines(it, body)]
-    return await _answered(request, it, body, lines)
+    return await _answered(request, it, body, lines, it.document)
 
 
 async def mixed(request: web.Request) -> web.Response:
@@ -62,9 +62,13 @@ def _of_document(it: About, line: bytes) -> bytes:
     return line
 
 
-async def _answered(request: web.Request, it: About, body: bytes, lines: "list[bytes]") -> web.Response:
+async def _answered(request: web.Request, it: About, body: bytes, lines: "list[bytes]", document: "str | None" = None) -> web.Response:
     async def work(kept: Kept) -> Made:
-        return step_all(kept, lines)
+        made = step_all(kept, lines)
+        if document is not None and any(draft.side != document for draft in made.drafts):
+            # The engine has read a line in another way than it was read here. The state is thrown away, and nothing is stored.
+            raise NotAllowed(f"a line is not an edit of {document}")
+        return made
 
     reply, is_earlier = await it.service.keeper.change(it.kind, it.pair, change_of(request, it.who, body, work))
     return _shown(it, reply, is_earlier)

@@ -20,7 +20,7 @@ from .. import tables
 from ..drafts import Change, Kept
 from ..engine import DocumentRefused, HubState, PairState, ProgramRefused, SIDES, Session, base_of
 from ..feeds import entry_of
-from ..problems import Conflict, KeyReused, NotFound, Problem, Refused
+from ..problems import Conflict, Gone, KeyReused, NotFound, Problem, Refused
 from .requests import About, Service, about, body_of, change_of, json_of, member, names_of, need_type, number_of, who_of, SERVICE
 
 
@@ -221,8 +221,9 @@ async def history(request: web.Request) -> web.Response:
     it = await about(request, "read")
     limit = number_of(request, "limit", 100, it.service.settings.limits.page)
     rows = await it.service.database.rows(tables.ROWS, it.pair, number_of(request, "after", 0), limit)
-    place = it.place()
-    changes = []
+    if any(row["kind"] == "end" for row in rows):
+        raise Gone("this was removed")
+    place, changes = it.place(), []
     for row in rows:
         words = read_json(row["words"]) if row["words"] else None
         one = {name: row[name] for name in ("number", "kind", "side", "author")} | {"entry": entry_of(row), "at": row["at"].isoformat()}

@@ -14,7 +14,7 @@ from editlens.log import Log, kind_of, write_log
 from .. import tables
 from ..drafts import Draft, changed
 from ..engine import KINDS, HubState, PairState, Unreadable, base_of, line_of
-from ..problems import Conflict, Refused
+from ..problems import Conflict, Gone, Refused
 from .pairs import begin, etag
 from .requests import SERVICE, about, body_of, change_of, names_of, need_type, who_of
 
@@ -28,6 +28,8 @@ async def export(request: web.Request) -> web.Response:
     for _ in range(TURNS):
         newest = (await it.service.database.rows(tables.NEWEST, it.pair))[0][0]
         rows = await it.service.database.rows(tables.LOG, it.pair, -1, newest if newest is not None else 0)
+        if rows and rows[-1]["kind"] == "end":
+            raise Gone("this was removed")
         payloads = None if newest is None else await _payloads(it.service, it.pair, rows)
         if payloads:
             headers = {**etag(rows[-1]["number"]), "Content-Disposition": f'attachment; filename="{it.name}.store"'}

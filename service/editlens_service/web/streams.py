@@ -70,6 +70,8 @@ async def _run(it: About, request: web.Request, response: web.StreamResponse, fe
             continue
         for event in events:
             if event.kind == "end":
+                # The name may belong to another pair by now, which the next stream finds.
+                service.forget(it.kind, it.name)
                 await _send(it, request, response, b"event: end\ndata: {}\n\n")
                 return
             if event.number != position + 1:
