@@ -14,14 +14,9 @@ import editlens_hub as hubs
 import editlens_library as library
 from editlens.json_text import read_json, write_json
 from editlens.types import Ty, read_type
+from library_session import Session
 
-try:
-    library.find_library()
-    from editlens_library import Kept
-    from library_session import Session
-except library.NoLibrary:
-    from editlens.session import Session  # type: ignore[assignment]
-    from .program_kept import Kept  # type: ignore[assignment]
+__all__ = ["HUB", "KINDS", "OTHER", "SIDES", "HubState", "PairState", "Session", "Stepped", "base_of", "line_of"]
 
 SIDES = ("left", "right")
 OTHER = {"left": "right", "right": "left"}
@@ -69,7 +64,7 @@ class PairState:
     kind = "pair"
     names: "tuple[str, ...]" = SIDES
 
-    def __init__(self, kept: Kept) -> None:
+    def __init__(self, kept: library.Kept) -> None:
         self.kept = kept
         self._types: "dict[str, Ty] | None" = None
 
@@ -77,7 +72,7 @@ class PairState:
     def begin(cls, program: str, documents: "dict[str, str]") -> "PairState":
         """A session over a program, from its first documents or from one document of either side."""
         try:
-            return cls(Kept(program.encode(), **{side: text.encode() for side, text in documents.items()}))
+            return cls(library.Kept(program.encode(), **{side: text.encode() for side, text in documents.items()}))
         except library.Unopened as why:
             if why.status == library.PROGRAM_REFUSED:
                 raise ProgramRefused(why.line.decode().rstrip("\n").removeprefix("program refused: ")) from None
@@ -89,7 +84,7 @@ class PairState:
     def reopen(cls, base: str, payloads: Sequence[str] = ()) -> "PairState":
         """The session for which a base and the changes behind it stand."""
         try:
-            return cls(Kept(records=[it.encode() for it in (*base.split("\n"), *payloads)]))
+            return cls(library.Kept(records=[it.encode() for it in (*base.split("\n"), *payloads)]))
         except library.Unopened as why:
             raise (MemoryError if _is_lost(why) else Unreadable)(str(why)) from None
 
