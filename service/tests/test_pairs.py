@@ -328,3 +328,32 @@ def test_another_program(room: Room) -> None:
     call = change("POST", f"/pairs/{name}/program", "application/json", narrower, None, None)
     assert raises(Refusal, client.ask, call).status == 409
     assert _verified(client.store(name), left.read()[0], other.pair(name, "right").read()[0]) == "consistent 1\n"
+
+
+def test_another_program_under_load(room: Room) -> None:
+    """While clients edit by both workers, the program changes: each accepted edit is in the log once, before it or after it."""
+    name = _made(room)
+    numbers: "list[int]" = []
+    is_done = threading.Event()
+
+    def edit(worker: int) -> None:
+        left = room.client(worker).pair(name, "left")
+        while not is_done.is_set():
+            numbers.append(left.edit(HOURS).number)
+
+    threads = [threading.Thread(target=edit, args=(it,), daemon=True) for it in (0, 1, 0)]
+    for it in threads:
+        it.start()
+    program, changed = PROGRAM, []
+    for field in ("owner", "place"):
+        while len(numbers) < 5 * (len(changed) + 1):
+            time.sleep(0.01)
+        program = program.replace("}", f", {field} ~ {field}: id text}}")
+        call = change("POST", f"/pairs/{name}/program", "application/json", write({"program": program}), None, None)
+        changed.append(room.client(1).ask(call)["number"])
+    is_done.set()
+    for it in threads:
+        it.join(60)
+    document, number = room.client().pair(name, "left").read()
+    assert document == {"hours": len(numbers), "owner": "", "place": "", "plan": []}
+    assert sorted(numbers + changed) == list(range(1, number + 1))

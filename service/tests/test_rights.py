@@ -57,6 +57,16 @@ def test_tokens_of_the_table(room: Room) -> None:
     assert token not in stored and len(stored) > 64
 
 
+def test_migrations_again(room: Room) -> None:
+    """The tables may be brought up to date again, by many at once, also of a database that has none yet."""
+    room.serve()
+    room.postgres.make("fresh")
+    words = [PYTHON, os.path.join(SERVICE, "manage"), "--database", room.postgres.dsn.replace("/editlens?", "/fresh?"), "migrate"]
+    running = [subprocess.Popen(words, stdout=subprocess.PIPE, text=True) for _ in range(3)]
+    said = sorted(it.communicate(timeout=120)[0] for it in running)
+    assert said == ["ran 001_tables.sql\n", "the tables are up to date\n", "the tables are up to date\n"], said
+
+
 def test_what_an_operator_asks(room: Room) -> None:
     """Health, readiness and counts want no token, and tell what happened."""
     name = room.name()
