@@ -16,7 +16,7 @@ from .room import Room
 
 COUNT, AT_ONCE = 10_000, 60
 MOST_GROWN = 200 << 20
-WORDS = [b"pairs", b"hubs", b"left", b"right", b"edits", b"changes", b"undo", b"store", b"history", b"..", b"%00", b"%2e%2e", b"views", b"0", b"desk", b"program", b"\xff\xfe"]
+WORDS = b"pairs hubs left right edits changes undo store history .. %00 %2e%2e views 0 desk program \xff\xfe".split()
 METHODS = [b"GET", b"PUT", b"POST", b"POST", b"POST", b"PATCH", b"PATCH", b"DELETE", b"OPTIONS", b"FOO"]
 
 
