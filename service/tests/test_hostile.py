@@ -15,6 +15,8 @@ from .load import PROGRAM
 from .room import Room
 
 COUNT, AT_ONCE = 10_000, 60
+FORM = 60
+"""Seconds of the run of many clients above which the long form is wanted."""
 MOST_GROWN = 200 << 20
 WORDS = b"pairs hubs left right edits changes undo store history .. %00 %2e%2e views 0 desk program \xff\xfe".split()
 METHODS = [b"GET", b"PUT", b"POST", b"POST", b"POST", b"PATCH", b"PATCH", b"DELETE", b"OPTIONS", b"FOO"]
@@ -88,20 +90,21 @@ def _ready(room: Room) -> "tuple[str, Any, Any]":
 
 
 def test_malformed_requests(room: Room) -> None:
-    """10,000 requests at random: none is a fault of the service, and the pair is as it was but for what was well after all."""
+    """Requests at random, 10,000 in the long form: none is a fault of the service, and the log has what was well after all, without a gap."""
     name, left, worker = _ready(room)
     chance = random.Random(room.seed)
     held = worker.memory()
-    requests = [_request(chance, name) for _ in range(COUNT)]
+    count = COUNT if room.seconds > FORM else COUNT // 5
+    requests = [_request(chance, name) for _ in range(count)]
     statuses = asyncio.run(_statuses(worker.port, requests))
     counts = Counter(statuses)
     assert worker.process.poll() is None, "the worker has ended"
     wrong = [(status, request[:300]) for status, request in zip(statuses, requests) if status >= 500]
     assert not wrong, (counts, wrong[:3])
-    assert sum(count for it, count in counts.items() if 400 <= it < 500) > COUNT * 0.9, counts
+    assert sum(found for it, found in counts.items() if 400 <= it < 500) > count * 0.9, counts
     assert worker.memory() < held + MOST_GROWN, (held, worker.memory())
-    document, number = left.read()
-    assert [it["number"] for it in left.history()] == list(range(1, number + 1))[:100] and document["hours"] >= 5
+    number = left.read()[1]
+    assert [it["number"] for it in left.history()] == list(range(1, number + 1))[:100]
     assert left.edit([{"at": ["hours", [{"add": 1}]]}]).number == number + 1
 
 
