@@ -48,8 +48,8 @@ class Disagreement:
 
 
 class _Loader:
-    def __init__(self, program_text, left, right, path):
-        self.program, self.path = program_text, path
+    def __init__(self, program_text, left, right, path, start=None):
+        self.program, self.path, self.start = program_text, path, start
         self.steps, self.disagreements, self.is_known = [], [], {}
         self.session = self._start()
         for side, document in (("left", left), ("right", right)):
@@ -68,7 +68,7 @@ class _Loader:
         self.session.close()
 
     def _start(self):
-        return Session(self.program, self.path)
+        return self.start() if self.start else Session(self.program, self.path)
 
     def _is_private(self, ty, value, path):
         """Whether the left side knows nothing of a place: an edit there is tried in another session, and carried to nothing."""
@@ -152,9 +152,9 @@ class Loaded:
         return [write_json(it) for it in told]
 
 
-def load_words(program_text, left, right, path=None):
-    """The edits that build the documents, as Loaded. Raises DoesNotFit and ProgramRefused."""
-    loader = _Loader(program_text, left, right, path)
+def load_words(program_text, left, right, path=None, start=None):
+    """The edits that build the documents, as Loaded. Raises DoesNotFit and ProgramRefused. `start` makes each session, where it is given."""
+    loader = _Loader(program_text, left, right, path, start)
     return Loaded(loader.left, loader.right, loader.disagreements)
 
 

@@ -12,11 +12,12 @@ def judged(program_text, path=None):
     try:
         left, right = check(program_of(program_text), path)
     except ProgramRefused as why:
-        return {"accepted": False, "lines": explain_program(program_text, why.reason), **_place(program_text, why.reason)}
+        return {"accepted": False, "lines": explain_program(program_text, why.reason), **place_of_reason(program_text, why.reason)}
     return {"accepted": True, "left": write_type(left), "right": write_type(right)}
 
 
-def _place(program_text, reason):
+def place_of_reason(program_text, reason):
+    """The place in a program, in characters, for which it is refused. Both ends are None where the reason names none."""
     words = reason.split(" ")
     if words[0] not in OFFSETS:
         return {"from": None, "to": None}

@@ -1,0 +1,1 @@
+"""Tests of the service, run by service/check."""
