@@ -1,9 +1,9 @@
 """Consistency: whether a left document, a complement and a right document belong together, by the patterns and images of docs/MEANING.md."""
 
 from editlens.documents import fits, is_depth_list
-from editlens.plans import contents, form_of, hold
 
 from .lenses import KINDS, is_paired, type_on
+from .plans import contents, form_of, hold
 
 HOLE = object()
 

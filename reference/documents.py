@@ -1,7 +1,8 @@
 """Types and documents, in the words of docs/FORMATS.md. A type is a Ty of the tools, and a document the tree of its JSON."""
 
-from editlens.plans import contents, in_byte_order
 from editlens.types import Ty
+
+from .plans import contents, in_byte_order
 
 UNIT = Ty("unit")
 BOOL = Ty("bool", start=False)

@@ -1,7 +1,8 @@
 """Edits of shapes and journal lines, in the words of docs/EDITS.md and docs/FORMATS.md. A shape is {"list": 3}, {"keyed": [..]} or {"tree": [..]}."""
 
 from editlens.edits import form_fault
-from editlens.plans import PLANS, NoPlan, node_at, plan
+
+from .plans import PLANS, NoPlan, node_at, plan
 
 
 def plan_answer(shape, primitive):

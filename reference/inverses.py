@@ -2,11 +2,11 @@
 
 from editlens.construct import construct
 from editlens.edits import act
-from editlens.plans import children_of, contents, form_of, node_at, paths_of
 
 from .documents import CONTAINERS
 from .edits import place_in
 from .lenses import with_word
+from .plans import children_of, contents, form_of, node_at, paths_of
 
 
 def grown(paths, words):

@@ -6,11 +6,11 @@ A lens is a tuple: ("id", T), ("rec", [row, ..]), ("alt", [(a, b, lens), ..]), (
 and translation leave out `bij` and `disc`, which only consistency needs.
 """
 
-from editlens.plans import contents, form_of, hold, plan
 from editlens.types import write_name, write_type
 
 from .documents import alternatives, container, enum, record
 from .edits import place_in
+from .plans import contents, form_of, hold, plan
 
 KINDS = {"each": "list", "keyed": "keyed", "tree": "tree"}
 

@@ -2,10 +2,10 @@
 
 import random
 
-from editlens.plans import MOST_DEPTH, hold, in_byte_order
 from editlens.types import LEAST_INT, MOST_INT, Ty
 
 from ..documents import BOOL, CONTAINERS, INT, TEXT, UNIT, alternatives, container, enum, record
+from ..plans import MOST_DEPTH, hold, in_byte_order
 
 NAMES = ["", "a", "ab", "b", "é", "\uffff", "\U00010000"]
 FIELDS = ["a", "b", "c", "é é", "list", "z"]

@@ -1,10 +1,10 @@
 """Writes cases of consistency for case_consistency, worked out by the rules of docs/MEANING.md and docs/FORMATS.md."""
 
-from editlens.plans import contents, form_of, hold
 
 from ..consistency import answer
 from ..documents import CONTAINERS, alternatives, container
 from ..lenses import KINDS, is_paired, text_of, type_on
+from ..plans import contents, form_of, hold
 from . import lines_of
 from .chance import FIELDS, SIMPLE, Chance
 

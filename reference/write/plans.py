@@ -2,10 +2,10 @@
 
 import itertools
 
-from editlens.plans import MOST_DEPTH
 
 from ..documents import is_shape_of_names
 from ..edits import place_in, plan_answer
+from ..plans import MOST_DEPTH
 from .chance import NAMES, depth_lists
 
 
