@@ -18,7 +18,7 @@ def kit_libraries():
     return sorted({below for _, _, uses in lines for below in uses.split()} - named)
 
 
-def kit():
+def kit_name():
     """The kit that proved or built the programs, or that it is unknown here."""
     try:
         return subprocess.run(["rt", "version"], stdout=subprocess.PIPE, text=True, check=True).stdout.strip()
@@ -29,7 +29,7 @@ def kit():
 def bill(packages):
     """The bill of materials of packages, pairs of a name and bytes: the name of the file, and its bytes."""
     time = datetime.datetime.fromtimestamp(time_of_commit(), datetime.timezone.utc).strftime("%Y-%m-%dT%H:%M:%SZ")
-    said = {"version": kit(), "description": "of the kit of Rattle, and linked into the programs and the library"}
+    said = {"version": kit_name(), "description": "of the kit of Rattle, and linked into the programs and the library"}
     parts = [{"type": "library", "name": name, **said} for name in kit_libraries()]
     parts.append({"type": "library", "name": "glibc", "description": "the C library of the machine, to which the programs are linked when they start"})
     for name, data in packages:
