@@ -6,9 +6,11 @@ from typing import Any
 
 from aiohttp import web
 
+from editlens.answers import Refused as ToolRefused
 from editlens.json_text import NotJson, read_json, write_json
 from editlens.natural import NoCounterpart, NotWritable, read_file, read_form, to_edit, to_patch, write_file
-from editlens.private import PrivateLoss, need_no_loss
+from editlens.private import Private, PrivateLoss, takes_away
+from editlens.trial import carry
 
 from .. import tables
 from ..drafts import Draft, Kept, Made, step_all
@@ -132,9 +134,7 @@ def _patched(it: About, kept: Kept, ops: Any, drops: bool) -> Made:
     try:
         made = to_edit(shapes[name], before[name], ops)
         if not drops and isinstance(state, PairState):
-            other = OTHER[name]
-            program = read_json(kept.opening)["program"]
-            need_no_loss(lambda: Session(program), name, before[name], made.words(), (types[other], before[other]))
+            _need_no_loss(state, read_json(kept.opening)["program"], name, made.parts)
     except NoCounterpart as why:
         raise Refused(str(why), cause="no-counterpart", operation=why.number) from None
     except PrivateLoss as why:
@@ -149,6 +149,20 @@ def _patched(it: About, kept: Kept, ops: Any, drops: bool) -> Made:
             if other != name:
                 found.reply["patches"][other] = _patch_of(shapes[other], before[other], word)
     return found
+
+
+def _need_no_loss(state: PairState, program: str, side: str, parts: "list[Any]") -> None:
+    """Raises PrivateLoss where the parts of a patch take from the other side what it alone has. They are tried out on a twin of the session."""
+    private = Private(program, OTHER[side], state.types())
+    if not private.has_any() or not any(takes_away(part.word()) and not part.is_removal() for part in parts):
+        return
+    with Session(program, state=state.kept.state()) as twin:
+        try:
+            for part in parts:
+                carry(twin, side, part, private)
+        except ToolRefused:
+            # The engine says so when the edit comes to it.
+            return
 
 
 def _patch_of(shape: Any, before: Any, word: Any) -> Any:
