@@ -27,8 +27,7 @@ pub const RECORDS_REFUSED: u32 = 11;
 /// The part is one of the last change, and the last line was not a change that was accepted. Nothing changed.
 pub const NO_CHANGE: u32 = 12;
 
-/// Nothing was done: the address is NULL, or nothing is open there; or, of a call that opens, something is open there
-/// already.
+/// Nothing was done: the address is NULL, or nothing is open there; or, of a call that opens, something is open there already.
 pub const NOT_OPEN: u32 = 13;
 
 /// The number of this interface: it is raised where a caller has to be compiled anew.

@@ -5,8 +5,7 @@ ghost use Rattle.editlens_c.specs.HubSlots.{IsHubPut, IsHubEnded, is_hub_taken};
 use crate::codes::{DONE, HUB_WORD, NOT_OPEN};
 use kept_hubs::KeptHub;
 
-/// A word, and a hub behind it if the word is the word of magic. Any other word says that nothing is open, whatever is
-/// behind it.
+/// A word, and a hub behind it if the word is the word of magic. Any other word says that nothing is open, whatever is behind it.
 #[repr(C)]
 #[derive(Drop)]
 pub(crate) struct HubSlot {

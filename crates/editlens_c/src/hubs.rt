@@ -11,9 +11,7 @@ ghost use Rattle.editlens_c.specs.HubKeeping.{HubWrites, HubWritesKept, HubEnds}
 
 use crate::answer::{Answer, is_written, not_open, untouched};
 use crate::codes::{DONE, NOT_OPEN, SMALL_BUFFER, UNKNOWN_PART};
-use crate::hub_answer::{
-    hub_answer_to, hub_closed_status, hub_part_of, hub_plain_answer, hub_standing_of,
-};
+use crate::hub_answer::{hub_answer_to, hub_closed_status, hub_part_of, hub_plain_answer, hub_standing_of};
 use crate::hub_slot::HubSlot;
 use kept_hubs::KeptHub;
 use std::alloc::Global;
@@ -29,8 +27,7 @@ pub extern "C" fn editlens_hub_size() -> usize
 /// Puts the hub over the programs of its views, or why there is none, into memory that has room for it.
 ///
 /// The programs are those of a script of the command `hub`: up to 64, with a line `+++` between them.
-/// What is returned says which, as `editlens_hub_status` does; or it is `NOT_OPEN`, and nothing was done. The text is the
-/// line of a refusal, or empty.
+/// What is returned says which, as `editlens_hub_status` does; or it is `NOT_OPEN`, and nothing was done. The text is the line of a refusal, or empty.
 ///
 /// # Safety
 ///
@@ -86,12 +83,7 @@ pub unsafe extern "C" fn editlens_hub_resume(
     if at.is_null() {
         return NOT_OPEN;
     }
-    resumed(
-        alloc,
-        unsafe { &mut *(at as *mut HubSlot) },
-        programs,
-        state,
-    )
+    resumed(alloc, unsafe { &mut *(at as *mut HubSlot) }, programs, state)
 }
 
 fn resumed(alloc: Global, slot: &mut HubSlot, programs: &[u8], state: &[u8]) -> u32

@@ -1,4 +1,4 @@
-//! A session that a caller keeps, by a pointer to memory of its own that has room for it, or by NULL.
+//! A session that a caller keeps, by a pointer to memory of its own that has room for it.
 ghost use Rattle.std.specs.Prelude.{◌≡◌};
 ghost use types.Logic.{sem};
 ghost use denote.RawPtr.{Testable};
@@ -7,10 +7,8 @@ ghost use Rattle.editlens_c.specs.Keeping.{resumed_at, reopened_at, told_at, ste
 ghost use Rattle.editlens_c.specs.Keeping.{Opens, ImportsLeft, ImportsRight, Resumes, Reopens, Tells, Steps, StepsTo};
 ghost use Rattle.editlens_c.specs.Keeping.{Shows, ShowsTo, Writes, WritesKept, Ends};
 
-use crate::answer::{
-    Answer, answer_to, closed_status, is_written, not_open, part_of, plain_answer, standing_of,
-    untouched,
-};
+use crate::answer::{Answer, answer_to, closed_status, is_written, not_open, part_of};
+use crate::answer::{plain_answer, standing_of, untouched};
 use crate::codes::{DONE, NOT_OPEN, SMALL_BUFFER, UNKNOWN_PART};
 use crate::slot::Slot;
 use kept_sessions::Kept;
@@ -27,8 +25,7 @@ pub extern "C" fn editlens_session_size() -> usize
 
 /// Puts the session over a program, or why there is none, into memory that has room for it.
 ///
-/// What is returned says which, as `editlens_session_status` does; or it is `NOT_OPEN`, and nothing was done. The text
-/// is the payload of the first record of a log.
+/// What is returned says which, as `editlens_session_status` does; or it is `NOT_OPEN`, and nothing was done. The text is the payload of the first record of a log.
 ///
 /// # Safety
 ///
@@ -160,14 +157,7 @@ pub unsafe extern "C" fn editlens_session_resume(
     if at.is_null() {
         return NOT_OPEN;
     }
-    resumed(
-        alloc,
-        unsafe { &mut *(at as *mut Slot) },
-        program,
-        left,
-        complement,
-        right,
-    )
+    resumed(alloc, unsafe { &mut *(at as *mut Slot) }, program, left, complement, right)
 }
 
 fn resumed(

@@ -17,6 +17,7 @@ use types.ByLocal.{alloc_all, pass_all, free_all, look_at, look_in_at, get, get_
 use contract.Monad.{fact}
 use contract.Running.{tables}
 use denote.Exit.{yes}
+use denote.Builtin.{out}
 use denote.Laws.{Is, shows}
 use denote.Lend.{lends_ref, ref_back}
 use denote.Memory.{mem}
@@ -59,6 +60,7 @@ editlens_hub_text_spec 𝓤 𝓛 𝓜 𝓡 wired =
     (λ κs. (rawptr_vals, (mut_slice_vals, tt))) (λ κs. (rawptr_Tells, (mut_slice_Tells (named 0) κs.0 u8, tt))) (λ κs qs bounds a s are.
     let buf = a.1.0 in let sv = mut_slice_vals buf in
     let y : Ptr → W.Ghost = λ p. ((κs, qs, bounds, (p, (buf, tt)), (rawptr_vals p, (sv, tt))), s) in
+    let fits = (tt, (tt, (record { fits = are.1.0.0.1.0 }, tt))) in
     let N = triple_of 𝓛 n.signature (n.spec 𝓛 𝓜.mem 𝓡.returns) in let x : N.Ghost = ((κs, qs, tt, (buf, tt), (sv, tt)), tt) in
     qed 𝓛 (((‵ (flft κs.0 qs.0) ⊛ ‵ ftrue) ⊛ ‵ (RawPtr.own_val a.0 (rawptr_vals a.0)) ⊛ ‵ ((MutSlice (named 0) κs.0 u8).own_val buf sv) ⊛ ‵ ftrue) ∷ (raw (fact 𝓤 (Testable a.0)) ⊛ ‵ (hub_slot_at a.0 s)) ∷ []) ∵ move ! (1 ∷ []) $ split ! $ heard ! _ (λ may.
     by_pointer ! a.0 (λ p. hub_slot_at p s)
@@ -66,13 +68,13 @@ editlens_hub_text_spec 𝓤 𝓛 𝓜 𝓡 wired =
     -- [the slot; the tokens and what the parameters own]
     move ! (1 ∷ []) $ split ! $ move ! (1 ∷ []) $ split ! $ drop ! $ keep ! (0 ∷ 1 ∷ []) $
     -- [the buffer; the tokens]
-    enter ! _ _ _ _ _ $ alloc_all ! (λ l. pass_all ! refl ((tt, record { fits = lit< tt }), ((tt, (tt, (record { fits = are.1.0.0.1.0 }, tt))), tt)) $
+    enter ! _ _ _ _ _ $ alloc_all ! (λ l. pass_all ! refl ((tt, record { fits = lit< tt }), (fits, tt)) $
     sets ! (of_opd ! (get ! refl)) refl (tt, record { fits = lit< tt }) $
     sets ! (bin ! (get ! refl) (lit ! tt) (tests_null null_ptr (subst Testable e may))) refl (tt, tt) $
     first ! $ branches ! (get ! refl) (λ t. first ! $ blocks ! $ sets ! (addr ! (from ! (fld ! refl (hop ! (look_in_at ! 2 (sub ! 0 refl (whole !))) (stop !))))) refl (tt, tt) $
-    sets_last ! (agg ! (and_then ! (get ! refl) (and_then ! (get_in ! (fld ! refl (stop !)) (sub ! 1 refl (whole !))) (no_more !)))) refl (tt, (tt, (record { fits = are.1.0.0.1.0 }, tt))) $
+    sets_last ! (agg ! (and_then ! (get ! refl) (and_then ! (get_in ! (fld ! refl (stop !)) (sub ! 1 refl (whole !))) (no_more !)))) refl fits $
     exec ! 𝓣.C 𝓣.Λ (env code.Mir.locals l) (second_of (then_of code.Mir.s-3)) (any_q (after_seq 𝓤 𝓛.H (Wp 𝓤 𝓛.H 𝓣.C 𝓣.Λ (env code.Mir.locals l) code.Mir.t-4 (post 𝓤 𝓛.H (at_ret (env code.Mir.locals l) (W.post (y null_ptr))))) (post 𝓤 𝓛.H (at_ret (env code.Mir.locals l) (W.post (y null_ptr)))))) $
-    sets ! (of_opd ! (get ! refl)) refl (tt, (tt, (record { fits = are.1.0.0.1.0 }, tt))) $
+    sets ! (of_opd ! (get ! refl)) refl fits $
     move ! (1 ∷ 0 ∷ []) $ join ! $ nothing ! $ move ! (1 ∷ 0 ∷ []) $ use2 𝓛 (raw (N.pre x)) (id⊢ 𝓤 _) $
     calls_at ! (framed 𝓤 𝓛.H 𝓜 𝓣) N (nothing_met 𝓤 𝓛 𝓜 𝓡 (code.calls-editlens_c::answer::untouched 𝓡.env wired)) x (and_then ! (get ! refl) (no_more !)) (λ v.
     use1 𝓛 (later (some (λ (r : Answer). ((‵ (flft κs.0 qs.0) ⊛ ‵ ftrue) ⊛ ‵ (Out.own_val r (v ∷ []))) ⊛
@@ -82,16 +84,16 @@ editlens_hub_text_spec 𝓤 𝓛 𝓜 𝓡 wired =
     move ! (2 ∷ []) $ pick ! (λ ws. split ! $ move ! (1 ∷ []) $ heard ! _ (λ told. fsplit ! $ fsplit ! $ fsplit ! $ move ! (1 ∷ []) $ feq_l ! (λ same. fjoin ! $
     -- [the buffer; nothing; the tokens; the result]
     move ! (3 ∷ []) $ peeks ! Out (Is Out) (shows 𝓛 Out) r (v ∷ []) (λ is. lands_as ! refl refl ((out.the_row_laws.lawful 𝓛).typed r _ is).0 $
-    returns_within ! (W.post (y null_ptr)) refl (look_at ! 0 refl) $ free_all ! refl $ keep ! (0 ∷ 1 ∷ 3 ∷ []) $
-    -- [the result; the buffer; the tokens]
+    returns_within ! (W.post (y null_ptr)) refl (look_at ! 0 refl) $ free_all ! refl $
+    -- [the result; the buffer; nothing; the tokens]
     nothing ! $ fpack ! (IsUntouched r buf.now ws.0) (λ _. ftrue) told $
     suffices ! _ (ends_at 𝓛 f.ended stayed c (y null_ptr) v r (tt, (ws.0, tt)) (tt, (same, tt))) $
-    move ! (2 ∷ []) $ nothing ! $ move ! (1 ∷ 0 ∷ []) $ join ! $ nothing ! $ join ! $ move ! (3 ∷ 0 ∷ 2 ∷ []) $ group ! 3 $ done !)))))))
+    move ! (2 ∷ []) $ nothing ! $ move ! (1 ∷ 0 ∷ []) $ join ! $ nothing ! $ join ! $ move ! (4 ∷ 0 ∷ 2 ∷ 1 ∷ []) $ group ! 3 $ done !)))))))
     (λ t. absurd t)))
     (λ b o e. regoal ! (λ p. prop (WpFn 𝓤 𝓛.H 𝓣.C 𝓣.Λ code.function (rawptr_vals p ++ sv) (W.post (y p)))) e refl $
     move ! (1 ∷ []) $ split ! $ move ! (1 ∷ []) $ split ! $ drop ! $
     -- [the buffer; the tokens; the slot]
-    enter ! _ _ _ _ _ $ alloc_all ! (λ l. pass_all ! refl ((tt, tt), ((tt, (tt, (record { fits = are.1.0.0.1.0 }, tt))), tt)) $
+    enter ! _ _ _ _ _ $ alloc_all ! (λ l. pass_all ! refl ((tt, tt), (fits, tt)) $
     sets ! (of_opd ! (get ! refl)) refl (tt, tt) $
     sets ! (bin ! (get ! refl) (lit ! tt) (tests_null (block_ptr b o) (subst Testable e may))) refl (tt, tt) $
     first ! $ branches ! (get ! refl) (λ t. absurd t) (λ t. skips ! $
@@ -101,9 +103,9 @@ editlens_hub_text_spec 𝓤 𝓛 𝓜 𝓡 wired =
     exec ! 𝓣.C 𝓣.Λ (env code.Mir.locals l) code.Mir.t-5 (at_ret (env code.Mir.locals l) (W.post (y (block_ptr b o)))) $
     sets ! (of_opd ! (get ! refl)) refl (tt, tt) $
     first ! $ blocks ! $ sets ! (addr ! (from ! (fld ! refl (hop ! (look_in_at ! 2 (sub ! 0 refl (whole !))) (stop !))))) refl (tt, tt) $
-    sets_last ! (agg ! (and_then ! (get ! refl) (and_then ! (get_in ! (fld ! refl (stop !)) (sub ! 1 refl (whole !))) (no_more !)))) refl (tt, (tt, (record { fits = are.1.0.0.1.0 }, tt))) $
+    sets_last ! (agg ! (and_then ! (get ! refl) (and_then ! (get_in ! (fld ! refl (stop !)) (sub ! 1 refl (whole !))) (no_more !)))) refl fits $
     exec ! 𝓣.C 𝓣.Λ (env code.Mir.locals l) code.Mir.t-7 (at_ret (env code.Mir.locals l) (W.post (y (block_ptr b o)))) $
-    sets ! (of_opd ! (get ! refl)) refl (tt, (tt, (record { fits = are.1.0.0.1.0 }, tt))) $
+    sets ! (of_opd ! (get ! refl)) refl fits $
     lft_new ! tt (λ α. move ! (3 ∷ []) $
     use1 𝓛 (later (some (λ (δ : GName). ‵ ((MutRef (named 0) (α ∷ []) R).own_val (record { ref_ptr = (b, o); ghost_name = δ; now = s }) (vptr b o ∷ [])) ⊛ ‵ (flent (α ∷ []) (Body (mem R) b o δ)))))
     (lends_ref 𝓛 R (named 0) (α ∷ []) s b o) $ await ! tt $ pick ! (λ δ. split ! $
