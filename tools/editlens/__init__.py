@@ -11,6 +11,7 @@ plans       what an edit does to the shape of a list, a map or a tree
 edits       what an edit does to a document, and why it is refused
 construct   the edits that build a document
 patches     JSON Patch (RFC 6902) to edits, and back
+infer       a program and form files from samples; `natural_schemas`: what a type means, as a JSON Schema
 natural     users' files as they are: form files, documents and patches both ways
 private     what the other side would lose by a patch; `trial`: edits that are tried out before they are sent
 patch_lines lines of patches for a store, and their answers

@@ -23,6 +23,8 @@ HOW = {
     "--left-form": {"metavar": "FILE"},
     "--right-form": {"metavar": "FILE"},
     "--drop-private": {"action": "store_true"},
+    "--json-schema": {"action": "store_true"},
+    "--typescript": {"action": "store_true"},
     "way": {"choices": ["to", "from"]},
 }
 

@@ -16,12 +16,12 @@ from editlens.load import DoesNotFit
 from editlens.lock import StoreBusy, StoreLock
 from editlens.log import kind_of
 from editlens.program import TOP
-from editlens.relens import change_lens, import_document
+from editlens.relens import Fitting, change_lens, import_document
 from editlens.replacement import WORK, NotDone
 from editlens.session import Session
 from editlens.store import NAME, ImportRefused, Store, StoreRefused
 from editlens.store_file import UnsafeFile
-from editlens.types import write_type
+from editlens.types import read_type, write_type
 from editlens.upkeep import back, backup, compact, drop_old, history, restore, state_at
 
 from . import Skipped
@@ -232,6 +232,71 @@ def test_what_another_lens_takes_from_the_right_document():
         assert said[:3] == ["left /n: is new, and is 0", "right /c: is new, and is 3", "right /n: by the left document 0, here 8"]
         change_lens(folder, lens, ({"a": 3, "n": 8}, None))
         assert store.show()[:2] == ({"a": 3, "n": 8}, {"b": 3, "c": 3, "tags": [""], "n": 8})
+
+
+def test_what_goes_is_said_by_types():
+    """One line for a field of many items, with the first five places and how many others there are."""
+    ty = read_type("list {name: text, time: int = 7}")
+    document = [{"name": "x", "hours": number % 3} for number in range(2000)]
+    fitted = Fitting(ty, document)
+    assert list(fitted.lines("left", fitted.document)) == [
+        "left hours of every item goes: 2,000 values, 3 different",
+        *(f"  /{number}/hours: was {number % 3}" for number in range(5)),
+        "  and 1,995 others",
+        "left time of every item is new, and is 7: 2,000 values",
+    ]
+    fitted = Fitting(ty, document, [("/*/hours", "time")])
+    assert list(fitted.lines("left", fitted.document)) == ["left hours of every item is now time: 2,000 values"]
+    assert fitted.document == [{"name": "x", "time": number % 3} for number in range(2000)]
+    tree = Fitting(read_type("tree {b: int}"), {"depths": [0, 1], "items": [{"a": 1}, {"a": 2}]}, [("a", "b")])
+    assert list(tree.lines("right", tree.document)) == ["right a of every node is now b: 2 values"]
+
+
+def test_another_lens_asks_before_anything_goes():
+    old = "main {rows ~ lines: each {name ~ name: id text, left hours: int}, left by: keyed {a: int}}\n"
+    rows = [{"name": "x", "hours": number % 3} for number in range(7)]
+    with tempfile.TemporaryDirectory() as folder:
+        store = Store.begin(folder, old, {"by": {"k": {"a": 7}}, "rows": rows})
+        whole = bytes_of(store.file)
+        lens = "main {rows ~ lines: each {name ~ name: id text, left time: int = 7}, left by: keyed {b: int}}\n"
+        said = str(raised(NotDone, lambda: change_lens(folder, lens))).splitlines()
+        assert said == [
+            "left /by/k/a: goes, and was 7",
+            "left hours of every item of rows goes: 7 values, 3 different",
+            *(f"  /rows/{number}/hours: was {number % 3}" for number in range(5)),
+            "  and 2 others",
+            "left /by/k/b: is new, and is 0",
+            "left time of every item of rows is new, and is 7: 7 values",
+            "nothing was changed: with --yes it is done so",
+        ], said
+        for renames in ([("hours", "hour")], [("a", "time")], [("/rows/hours", "time")], [("a", "b"), ("a", "c")]):
+            raised(NotDone, lambda: change_lens(folder, lens, is_accepted=True, renames=renames))
+        assert bytes_of(store.file) == whole
+        said = change_lens(folder, lens, renames=[("/rows/*/hours", "time"), ("a", "b")])
+        assert said[:2] == ["left a of every key of by is now b: 1 value", "left hours of every item of rows is now time: 7 values"]
+        assert store.show()[0] == {"by": {"k": {"b": 7}}, "rows": [{"name": "x", "time": number % 3} for number in range(7)]}
+
+
+def test_another_lens_with_files_as_they_are():
+    """By the tool: a field is renamed on both sides, and the left document is given as a user's file."""
+    with tempfile.TemporaryDirectory() as folder:
+        store = Store.begin(folder, "main {a ~ b: id text, left gone: int}\n", {"a": "3", "gone": 5})
+        files(folder, lens='main {c ~ d: id text, left price: text = "0"}', **{"left.json": '{"c": "4", "price": 0.50}', "left.form": {"/price": "number"}})
+        words = ("store", "change-lens", "lens", "--rename", "a", "c", "--rename", "b", "d")
+        status, _, said = called(folder, *words)
+        assert status == 1 and said.splitlines() == [
+            "left /gone: goes, and was 5",
+            "left a is now c: 1 value",
+            'left /price: is new, and is "0"',
+            "right b is now d: 1 value",
+            "nothing was changed: with --yes it is done so",
+        ], said
+        assert called(folder, "store", "change-lens", "lens", "--left-form", "left.form")[0] == 2
+        status, _, said = called(folder, *words[:3], "--left", "left.json", "--left-form", "left.form", "--rename", "b", "d")
+        assert status == 1 and 'right /d: by the left document "4", here "3"' in said.splitlines(), said
+        assert called(folder, *words[:3], "--left", "left.json", "--left-form", "left.form", "--rename", "b", "d", "--yes")[0] == 0
+        assert store.show()[:2] == ({"c": "4", "price": "0.50"}, {"d": "4"})
+        assert called(folder, *words[:3], "--left", "left.json", "--left-form", "lens")[0] == 2
 
 
 def test_a_document_of_any_form():
