@@ -4,7 +4,9 @@ import json
 import os
 import random
 import tempfile
+from unittest import mock
 
+from editlens import infer
 from editlens.checked import check
 from editlens.documents import misfits
 from editlens.infer import NotProposed, propose
@@ -101,11 +103,16 @@ def test_types_of_one_file():
         assert (types[0], forms["left"]) == (ty, form), (samples, types[0], forms)
 
 
+SAME_NAME = "the names are the same but for how they are written"
+NODE = {"type": "object", "properties": {"t": {"type": "string"}, "sub": {"type": "array", "items": {"$ref": "#"}}}, "additionalProperties": False}
+DRAFT = "https://json-schema.org/draft/2020-12/schema"
+
+
 def test_the_lens_of_two_files():
     """Each line: a left and a right sample, and lines that the program has."""
     for left, right, lines in (
         ({"a": 1, "b": "x"}, {"a": 2, "c": True}, ["  a ~ a: id int,", "  left b: text,", "  right c: bool"]),
-        ({"firstName": "Ida"}, {"first_name": "Bo"}, ["  # ? the names are the same but for how they are written", "  firstName ~ first_name: id text"]),
+        ({"firstName": "Ida"}, {"first_name": "Bo"}, [f"  # ? {SAME_NAME}", "  firstName ~ first_name: id text"]),
         ({"name": "Bolt"}, {"title": "Bolt"}, ["  # ? tied since 100 % of 1 values agree; the names differ", "  name ~ title: id text"]),
         ({"phone": "11"}, {"phone_number": "12"}, ["  # ? tied since one name has the other in it", "  phone ~ phone_number: id text"]),
         ({"a": 1}, {"a": "x"}, ["  left a: int,", "  right a: text"]),
@@ -148,7 +155,8 @@ def test_samples_above_the_limits():
         deep = {"a": deep, "b": [deep] if not deep else []}
     proposed(deep)
     letters = "abcdefghijklmnopqrstuvwxyz"
-    types, forms, _ = proposed({a: {a + b: [{a + "p" + b: 1, "q": "x"}] for b in letters} for a in letters})
+    with mock.patch.object(infer, "LEVELS", (14, 1)):
+        types, forms, _ = proposed({a: {a + b: [{a + "p" + b: 1, "q": "x"}] for b in letters} for a in letters})
     assert len(types[0]) < 65_536 and "json" in forms["left"].values()
 
 
@@ -202,19 +210,18 @@ def test_random_samples_fit():
 def test_random_pairs_of_samples_fit():
     """The right side is drawn by itself, or made of the left one with other names and values."""
     tied = 0
-    for _ in range(60):
+    for _ in range(40):
         left = some_samples()
         right = some_samples() if random.random() < 0.3 else [read_file(write_file(changed_names(it))) for it in left]
         samples = {"left": left, "right": right}
         made = propose(samples)
         held(made, samples)
         tied += "~" in made.program or "main each" in made.program
-    assert tied > 15, tied
+    assert tied > 10, tied
 
 
 def test_json_schemas():
     """Each line: a schema, and the type and the forms that are proposed."""
-    node = {"type": "object", "properties": {"t": {"type": "string"}, "sub": {"type": "array", "items": {"$ref": "#"}}}, "additionalProperties": False}
     for schema, ty, form in (
         ({"type": "integer", "minimum": 3}, "int", {}),
         ({"type": ["string", "null"]}, "<none: unit, some: text>", {"": {"null": "none"}}),
@@ -229,8 +236,12 @@ def test_json_schemas():
             "<a: {a: text}, b: {b: text}>",
             {"": {"kind": "k"}},
         ),
-        ({"anyOf": [{"type": "string"}, {"type": "object", "required": ["a"], "properties": {"a": True}}]}, None, {"": "untagged", "/object/a": "json"}),
-        ({**node, "$schema": "https://json-schema.org/draft/2020-12/schema"}, None, {"": {"children": "sub", "leaf": "missing"}, "/*/t": {"missing": "none"}}),
+        (
+            {"anyOf": [{"type": "string"}, {"type": "object", "required": ["a"], "properties": {"a": True}}]},
+            "<string: text, object: {a: text = \"null\"}>",
+            {"": "untagged", "/object/a": "json"},
+        ),
+        ({**NODE, "$schema": DRAFT}, None, {"": {"children": "sub", "leaf": "missing"}, "/*/t": {"missing": "none"}}),
         ({"$ref": "#"}, 'text = "null"', {"": "json"}),
     ):
         made = propose({"left": [schema]}, are_schemas=True)
