@@ -152,6 +152,8 @@ def test_an_order_of_keys():
     assert [it["k"] for it in to_file(shape, document)] == ["c", "a", "b"]
     plain = read_form(read_type("{l: keyed {n: int}}"), {"/l": {"key": "k"}})
     assert lost_orders(plain, to_document(plain, {"l": [{"k": "b", "n": 1}, {"k": "a", "n": 1}]})) == ["/l"]
+    inside = read_form(read_type("keyed list {l: keyed {n: int}}"), {"/*/*/l": {"key": "k"}})
+    assert lost_orders(inside, to_document(inside, {"x": [{"l": [{"k": "b", "n": 1}, {"k": "a", "n": 1}]}], "y": []})) == ["/x/0/l"]
 
 
 def test_users_files_are_read_to_the_letter():
