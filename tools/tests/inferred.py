@@ -66,7 +66,13 @@ def test_the_examples_by_the_tools():
                 files(folder, document=document)
                 assert called(folder, "fits", f"{name}.lens", side, "document") == (0, "it fits\n", "")
                 status, back, said = called(folder, "natural", "from", f"{name}.lens", side, f"{name}.{side}.form", given=document)
-                assert (status, read_file(back)) == (0, read_file_at(path)), said
+                assert status == 0, said
+                with open(os.path.join(folder, f"{name}.{side}.form"), encoding="utf-8") as file:
+                    is_by_key = '{"key":' in file.read()
+                # A list by key comes back in the order of its keys, as the program says.
+                assert is_by_key or read_file(back) == read_file_at(path), (name, side)
+                words = ("to", f"{name}.lens", side, f"{name}.{side}.form")
+                assert not is_by_key or called(folder, "natural", *words, given=back)[:2] == (0, document), (name, side)
 
 
 def test_types_of_one_file():

@@ -248,6 +248,8 @@ def test_what_goes_is_said_by_types():
     fitted = Fitting(ty, document, [("/*/hours", "time")])
     assert list(fitted.lines("left", fitted.document)) == ["left hours of every item is now time: 2,000 values"]
     assert fitted.document == [{"name": "x", "time": number % 3} for number in range(2000)]
+    both = Fitting(read_type("{time: int}"), {"hours": 1, "time": 2}, [("hours", "time")])
+    assert both.document == {"time": 2} and list(both.lines("left", both.document)) == ["left /hours: goes, and was 1"] and not both.used
     tree = Fitting(read_type("tree {b: int}"), {"depths": [0, 1], "items": [{"a": 1}, {"a": 2}]}, [("a", "b")])
     assert list(tree.lines("right", tree.document)) == ["right a of every node is now b: 2 values"]
 
