@@ -1,13 +1,15 @@
 """JSON Schemas of both sides against the library jsonschema: what fits validates, and what does not fit does not. And types of TypeScript."""
 
 import json
+import os
 import tempfile
 
 from editlens.checked import check
 from editlens.documents import misfits
 from editlens.infer import propose
-from editlens.natural import DoesNotFit, FormFault, plain, read_file, read_form, to_document, to_file, write_file
+from editlens.natural import DoesNotFit, FormFault, plain, read_file, read_file_at, read_form, read_form_at, to_document, to_file, write_file
 from editlens.natural_schemas import json_schema
+from editlens.program import TOP
 from editlens.types import read_type
 
 from . import Skipped
@@ -95,6 +97,17 @@ def test_a_schema_gives_types_back():
             file = read_file(write_file(draw()))
             document = to_document(shape, file)
             assert write_file(to_file(shape, document)) == write_file(file), (str(ty), form, made.program)
+
+
+def test_the_files_of_the_examples():
+    for name, *sides in (("compose", "compose", "values"), ("customers", "old", "new"), ("outline", "outline", "tasks")):
+        place = os.path.join(TOP, "examples", name)
+        with open(os.path.join(place, f"{name}.lens"), encoding="utf-8") as file:
+            types = check(file.read())
+        for ty, side in zip(types, sides):
+            valid = validator(read_form_at(ty, os.path.join(place, f"{side}.form")))
+            file = read_file_at(os.path.join(place, f"{side}.json"))
+            assert valid.is_valid(file) and not valid.is_valid([file])
 
 
 PROGRAM = """type item = {"id": int, price: text = "0", fax: <none: unit, some: text>};
