@@ -86,13 +86,13 @@ class StoreLock:
             self._held, self._files = None, {}
 
 
-def _opened(held, path, flags):
+def _opened(held: contextlib.ExitStack, path: str, flags: int) -> int:
     descriptor = os.open(path, os.O_RDONLY | flags)
     held.callback(os.close, descriptor)
     return descriptor
 
 
-def _is_taken(descriptor):
+def _is_taken(descriptor: int) -> bool:
     try:
         fcntl.flock(descriptor, fcntl.LOCK_EX | fcntl.LOCK_NB)
     except BlockingIOError:
@@ -118,7 +118,7 @@ def is_busy(folder: str) -> bool:
         return False
 
 
-def need_free(folder):
+def need_free(folder: str) -> None:
     """Raises StoreBusy where a program is seen that writes to a store in a folder, and UnsafeFile where no program writes to it."""
     if is_busy(folder):
         raise StoreBusy(folder)

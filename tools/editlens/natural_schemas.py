@@ -18,7 +18,7 @@ WHOLE = {"type": "integer", "minimum": LEAST_INT, "maximum": MOST_INT}
 
 def json_schema(shapes: dict) -> dict:
     """One schema with a definition for each side. A node of nested objects has a definition of its own."""
-    definitions = {}
+    definitions: dict = {}
     for side, shape in shapes.items():
         definitions[side] = {}
         definitions[side] = _Writer(side, definitions).of(shape)

@@ -55,8 +55,9 @@ class Guess:
 
     def roles(self) -> dict:
         """The tags of alternatives that are written as no member or as null, by the word of their form."""
-        is_apart = self.kind == "alternatives" and isinstance(self.form, dict)
-        return {word: self.form[word] for word in ("missing", "null") if word in self.form} if is_apart else {}
+        if self.kind != "alternatives" or not isinstance(self.form, dict):
+            return {}
+        return {word: self.form[word] for word in ("missing", "null") if word in self.form}
 
     def contents(self) -> dict:
         """The guesses of what is written alone: by their tags where several kinds are, otherwise as `some`."""

@@ -16,7 +16,7 @@ def guess_of(values: list, levels: int) -> Guess:
     """The guess of a place by all that samples have there. Below so many levels of nesting, JSON values are kept as they are."""
     present = [it for it in values if it is not NOTHING]
     content = [it for it in present if it is not None]
-    by_sort = {}
+    by_sort: dict = {}
     for it in content:
         by_sort.setdefault(sort_of(it), []).append(it)
     if not content:
