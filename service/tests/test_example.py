@@ -36,7 +36,7 @@ def test_the_example(room: Room) -> None:
         assert raises(Refusal, people["builder"].pair("tasks", "left").edit, []).status == 403
     finally:
         process.send_signal(signal.SIGINT)
-        process.wait(60)
+        process.wait(180)
         process.stdout.close()  # type: ignore[union-attr]
     assert process.returncode == 0
 
