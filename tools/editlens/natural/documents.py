@@ -1,5 +1,7 @@
 """Documents of users' files: a file held against the shape of a type, and the document that it shows."""
 
+from collections.abc import Mapping
+
 from ..documents import MOST_DEPTH, Misfit, is_depth_list, is_int
 from ..json_text import pointer
 from ..types import write_name
@@ -33,7 +35,7 @@ def _lost_orders(place, path):
     inside, there = members(place), content(place)
     if not there.role and there.shape.is_key_list() and "order" not in there.shape.form and list(there.value) != sorted(there.value, key=str.encode):
         yield pointer(path)
-    for step, it in inside.items() if isinstance(inside, dict) else enumerate(inside or []):
+    for step, it in inside.items() if isinstance(inside, Mapping) else enumerate(inside or []):
         yield from _lost_orders(it, (*path, step))
 
 
