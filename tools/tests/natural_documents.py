@@ -165,3 +165,10 @@ def test_users_files_are_read_to_the_letter():
         except NotJson:
             continue
         raise AssertionError(text)
+
+
+def test_no_order_is_lost_in_a_map():
+    """A map has its members by their keys, also where a list by key is among them, which does lose its order."""
+    shape = read_form(read_type("keyed {rows: keyed {n: int}}"), {"/*/rows": {"key": "id"}})
+    assert lost_orders(shape, {}) == [] == lost_orders(shape, {"a": {"rows": {"x": {"n": 1}, "y": {"n": 2}}}})
+    assert lost_orders(shape, {"a": {"rows": {"y": {"n": 1}, "x": {"n": 2}}}}) == ["/a/rows"]
