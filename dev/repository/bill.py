@@ -12,10 +12,10 @@ from .package import git, time_of_commit
 
 
 def kit_libraries():
-    """The libraries of the kit that the crates name."""
+    """The libraries of the kit that the crates name, and std, which every crate has."""
     lines = [line.split("#")[0].partition(":") for line in read_lines(os.path.join(TOP, "crates.txt"))]
     named = {head.split()[0] for head, colon, _ in lines if colon and head.strip()}
-    return sorted({below for _, _, uses in lines for below in uses.split()} - named)
+    return sorted({"std", *(below for _, _, uses in lines for below in uses.split())} - named)
 
 
 def kit_name():
