@@ -33,7 +33,7 @@ def schema_of(shape):
 
 def validator(shape):
     if jsonschema is None:
-        raise Skipped("the library jsonschema is not installed")
+        raise Skipped("python3-jsonschema is not installed")
     schema = schema_of(shape)
     jsonschema.Draft202012Validator.check_schema(schema)
     return jsonschema.Draft202012Validator(schema)
