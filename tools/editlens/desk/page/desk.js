@@ -5,10 +5,13 @@ import { drawDocument } from "./documents.js";
 import { startDrag } from "./dragging.js";
 import { byId, element } from "./elements.js";
 import { Steps, drawComplement, drawHistory, drawLast, drawNotices, refusalLines } from "./panels.js";
+import { pathOf, placeAt, typeAt } from "./places.js";
+import { plainly } from "./plain.js";
 import { ProgramEditor } from "./program.js";
 import { partners } from "./ties.js";
+import { Turns } from "./turns.js";
 import { Versions } from "./versions.js";
-import { Verbatim, editAt, pathWithout, pointer } from "./words.js";
+import { Verbatim, editAt, pathWithout, pointer, writeJson } from "./words.js";
 
 const SIDES = ["left", "right"];
 const OTHER = { left: "right", right: "left" };
@@ -32,6 +35,15 @@ class Side {
 
   get version() { return this.desk.state.version; }
   get canEdit() { return this.desk.state.mode !== "replay"; }
+  get otherSide() { return OTHER[this.side]; }
+
+  /** What belongs to a path in the other document: types and values. What needs a complement that is still to come is left out. */
+  tiedTo(path) {
+    const { lens, complement, version, sides } = this.desk.state;
+    const { type, document } = sides[this.otherSide];
+    const kept = complement?.version === version ? complement.tree : null;
+    return partners(lens, kept, this.side, path).map((it) => placeAt(type, document, pathOf(it))).filter(Boolean);
+  }
 
   /** Sends an edit of a place. */
   send(place, word, focus) {
@@ -142,12 +154,12 @@ class Page {
     this.step = null;
     this.refusal = null;
     this.versions = new Versions();
-    this.turn = Promise.resolve();
+    this.turns = new Turns();
     this.drawn = Promise.resolve();
     this.sides = Object.fromEntries(SIDES.map((it) => [it, new Side(it, this)]));
     this.steps = new Steps((step) => this.go(step));
     this.program = new ProgramEditor((text) => call("check", { program: text }), (text) => this.load(text));
-    byId("undo").addEventListener("click", () => this.ask("undo", {}));
+    byId("undo").addEventListener("click", () => this.ask("undo", {}, "Taking the last change back"));
     byId("message-close").addEventListener("click", () => { byId("message").hidden = true; });
     document.addEventListener("keydown", (event) => event.key === "Escape" && this.dismiss());
     follow(() => this.refresh(), (isThere) => this.connected(isThere));
@@ -234,12 +246,19 @@ class Page {
     return this.versions.rebased(base, this.state.version, side.side, place, isFree);
   }
 
-  /** Sends an edit of a side, behind those that are on their way. */
+  /** Is kept when all that was asked for has its answer. */
+  get turn() { return this.turns.last; }
+
+  /**
+   * Sends an edit of a side, behind those that are on their way. A second press of a control does nothing until the first has its answer,
+   * but what was typed is always sent, and so is an edit that is free: it holds for whatever the place has inside.
+   */
   send(side, edit, focus = {}) {
     const base = focus.base ?? this.state.version;
     const from = document.activeElement?.dataset.key;
-    this.turn = this.turn.then(() => this.sendNow(side, edit, base, { from, ...focus }));
-    return this.turn;
+    const isPress = !focus.isFree && focus.base === undefined && focus.place !== undefined;
+    const name = isPress ? `${side.side} ${focus.key ?? writeJson(edit)}` : null;
+    return this.turns.take("Sending the edit", name, () => this.sendNow(side, edit, base, { from, ...focus }));
   }
 
   /** Sends an edit. A refusal is shown at its place, and the document is drawn as it is. */
@@ -260,11 +279,20 @@ class Page {
       this.say({ ...said, typed: focus.typed });
       return;
     }
-    this.refusal = said;
-    side.refusal = { ...said, typed: focus.typed };
+    const refusal = this.inPlainWords(side, said, focus);
+    this.refusal = refusal;
+    side.refusal = { ...refusal, typed: focus.typed };
     side.redraw();
-    drawLast(this.state, said);
-    side.at(said.place ?? "").querySelector(".refused")?.scrollIntoView({ block: "nearest" });
+    drawLast(this.state, refusal);
+    side.at(refusal.place ?? "").querySelector(".refused")?.scrollIntoView({ block: "nearest" });
+  }
+
+  /** A refusal with its place and, where it was made by a control, with a sentence for a person. */
+  inPlainWords(side, said, { place, typed }) {
+    if (place === undefined) return said;
+    const here = said.place ?? place;
+    const plain = plainly(said.cause, typeAt(this.state.sides[side.side].type, pathOf(here)), typed);
+    return plain ? { ...said, place: here, plain } : said;
   }
 
   /** Sends an edit that was written by hand, as it is. */
@@ -278,7 +306,12 @@ class Page {
     await this.send(side, new Verbatim(text));
   }
 
-  async ask(name, body) {
+  /** Asks for something that is no edit, once until it has its answer. */
+  ask(name, body, words) {
+    return this.turns.take(words, name, () => this.askNow(name, body));
+  }
+
+  async askNow(name, body) {
     const said = await call(name, { base: new Verbatim(String(this.state.version)), ...body });
     if (said.ok) await this.refresh();
     else this.say(said);
@@ -286,8 +319,8 @@ class Page {
   }
 
   async load(text) {
-    const said = await this.ask("load", { program: text });
-    if (said.ok) this.program.show(text, true);
+    const said = await this.ask("load", { program: text }, "Loading the program");
+    if (said?.ok) this.program.show(text, true);
   }
 
   /** Marks a place, and what belongs to it on the other side. */
@@ -303,11 +336,6 @@ class Page {
     const found = others.map((it) => this.sides[OTHER[side.side]].root.querySelector(`[data-place="${CSS.escape(it)}"]`)).filter(Boolean);
     if (found.length) [place, ...found].forEach((it) => it.closest(".entry, .row")?.classList.add("tied"));
   }
-}
-
-/** The names and places of a JSON Pointer. */
-function pathOf(place) {
-  return place.split("/").slice(1).map((it) => it.replaceAll("~1", "/").replaceAll("~0", "~"));
 }
 
 window.page = new Page();

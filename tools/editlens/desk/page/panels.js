@@ -31,10 +31,13 @@ export function refusalLines(said) {
   const place = said.place === null || said.place === undefined ? "" : ` at ${said.place || "the document"}`;
   const head = said.cause === "stale" ? "not sent, since it is stale" : `refused: ${said.cause}${place}`;
   const title = said.cause === "failed" || !said.cause ? "not done" : head;
-  const lines = [element("strong", {}, title), element("span", {}, said.sentence.replace(/\.?$/, "."))];
-  if (said.allowed) lines.push(element("span", {}, "Allowed here: ", element("code", {}, said.allowed)));
+  const sentence = said.sentence.replace(/\.?$/, ".");
+  const lines = said.plain
+    ? [element("strong", {}, said.plain), element("small", { title: sentence }, head)]
+    : [element("strong", {}, title), element("span", {}, sentence)];
+  if (said.allowed && !said.plain) lines.push(element("span", {}, "Allowed here: ", element("code", {}, said.allowed)));
   if (said.since) lines.push(element("span", {}, "Since then: "), element("ul", {}, ...said.since.map((it) => element("li", {}, it))));
-  if (said.typed) lines.push(element("span", {}, "Your text was: ", element("code", {}, said.typed)));
+  if (said.typed && !said.plain) lines.push(element("span", {}, "Your text was: ", element("code", {}, said.typed)));
   return lines;
 }
 

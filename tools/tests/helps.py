@@ -1,0 +1,138 @@
+"""What helps a person at the desk, in a browser: a sign that it is busy, plain words, warnings, folding, a filter, the order of the program.
+
+Debian's chromium and chromium-driver are wanted, or all is skipped.
+"""
+
+import tempfile
+
+from editlens.desk.desk import Desk
+from editlens.desk.keepers import StoreKeeper
+from editlens.store import Store
+
+from .desks import TASKS
+from .windows import ALL, opened, started
+
+NEEDS_BROWSER = True
+
+SLOW = """
+const asked = window.fetch;
+const held = new Promise((done) => { window.release = done; });
+window.calls = [];
+window.fetch = async (...words) => {
+  if (["edit", "undo", "redo", "load"].includes(words[0])) {
+    window.calls.push(words[0]);
+    await held;
+  }
+  return asked(...words);
+};
+"""
+"""Holds each call that changes something back until `release` is called, and lists these calls."""
+
+
+def test_a_sign_that_it_is_busy():
+    """Until the answer is there, a second press of the same button sends nothing, and nobody is told that their own undo made them late."""
+    with tempfile.TemporaryDirectory() as folder:
+        Store.init(folder, TASKS)
+        with opened(Desk(StoreKeeper(folder), "slow")) as window:
+            page = window.browser
+            for number in range(2):
+                window.click("left", ("plan",), "add")
+                window.after(number + 1)
+            assert window.says("#busy") == ""
+            page.run(SLOW)
+            page.run("for (let time = 0; time < 3; time += 1) document.getElementById('undo').click()")
+            page.until(lambda: window.says("#busy") == "Taking the last change back …", lambda: f"the sign is {window.says('#busy')}")
+            assert page.run("return document.getElementById('left').getAttribute('aria-busy')") == "true"
+            page.run("window.release()")
+            window.after(3)
+            assert (page.run("return window.calls"), window.says("#message-text"), window.says("#busy")) == (["undo"], "", "")
+            assert window.desk.keeper.documents["left"]["plan"] == [{"todo": ""}]
+
+
+BIG = 2**63 - 1
+REFUSED = [
+    (lambda it: it.write("left", ("count",), "1.5", "Enter"), "/count", "A whole number is wanted here, such as 7 or -12. “1.5” is not one."),
+    (lambda it: it.write("right", ("number",), str(BIG + 1), "Enter"), "/number", f"to {BIG:,}. “{BIG + 1}” is not one."),
+    (lambda it: it.click("left", ("costs", "x"), "more"), "/costs/x", "The sum would go past what a whole number can be here"),
+    (lambda it: it.write("left", ("costs", "y"), "x", "Enter", role="key"), "/costs", "There is a key “x” here already. Choose another name."),
+    (lambda it: it.write("right", ("prices",), "x", "Enter", role="new-key"), "/prices", "There is a key “x” here already. Choose another name."),
+    (lambda it: it.click("left", ("outline", "items", 15), "graft"), "/outline", "A tree has at most 16 levels"),
+]
+
+
+def test_refusals_in_plain_words():
+    """What a control cannot do is said in a sentence at its place, without the forms of edits, which nobody wrote."""
+    deep = {"depths": list(range(16)), "items": [""] * 16}
+    whole = {"costs": {"x": BIG, "y": 0}, "count": 0, "flag": False, "kind": {"none": None}, "level": "low", "name": "", "outline": deep, "secret": "", "tags": []}
+    with started(ALL, whole) as window:
+        for act, place, wanted in REFUSED:
+            act(window)
+            selector = f"[data-place='{place}'] > .refused"
+            window.browser.until(lambda: wanted in window.says(selector), lambda: f"{place}: {window.says('.refused')}")
+            assert "Allowed here" not in window.says(".refused") and '{"' not in window.says(".refused"), window.says(".refused")
+            window.settle()
+        assert window.desk.version == 0
+
+
+def test_a_warning_before_a_content_goes():
+    """Where a kind is changed and something would go with it, the page asks, and what has the focus then keeps all as it is."""
+    with started(TASKS, {"hours": 0, "plan": [{"todo": "task 1"}, {"todo": ""}]}) as window:
+        page, item = window.browser, ("plan", 0)
+        for keys in (["Enter"], ["Escape"]):
+            window.ask_for("left", item, "d")
+            assert window.says(".warning > span") == "“task 1” goes with the kind todo.", window.says(".warning")
+            assert page.run("return arguments[0].value", page.find(window.control("left", item, "tag"))) == "todo"
+            page.press(*keys)
+            page.until(lambda: page.run("return !document.querySelector('.warning')"), "the question stays")
+            window.settle()
+            assert window.desk.version == 0
+        window.ask_for("left", item, "d")
+        page.press("Tab", "Enter")
+        window.after(1)
+        window.choose("left", ("plan", 1), "done", "tag")
+        window.after(2)
+        window.shows_what_the_program_says()
+        assert window.desk.keeper.documents["left"]["plan"] == [{"done": ""}, {"done": ""}]
+
+
+def test_a_warning_about_the_other_document():
+    program = "main each <a ~ b: {x ~ y: id int, right memo: text}, c ~ d: id unit>"
+    with started(program, [{"a": {"x": 0}}, {"a": {"x": 7}}], [{"b": {"y": 0, "memo": "red"}}, {"b": {"y": 7, "memo": ""}}]) as window:
+        for number, wanted in ((0, "With the kind goes what the right document alone keeps: “red”."), (1, "7 goes with the kind a.")):
+            window.ask_for("left", (number,), "c")
+            assert window.says(".warning > span") == wanted, window.says(".warning")
+            window.browser.press("Escape")
+        window.ask_for("right", (0,), "d")
+        assert window.says(".warning > span") == "“red” goes with the kind b.", window.says(".warning")
+
+
+CARET = """
+const lines = [...document.querySelectorAll("#program-said pre")].map((it) => it.firstChild).find((it) => it.data.includes("^"));
+if (!lines) return null;
+const place = (from, to) => {
+  const range = document.createRange();
+  range.setStart(lines, from);
+  range.setEnd(lines, to);
+  return range.getBoundingClientRect();
+};
+const caret = lines.data.indexOf("^");
+const size = /\\^+/.exec(lines.data)[0].length;
+const line = lines.data.lastIndexOf("\\n", caret) + 1;
+const above = lines.data.lastIndexOf("\\n", line - 2) + 1 + caret - line;
+const [here, there] = [place(caret, caret + size), place(above, above + size)];
+return [lines.data.slice(above, above + size), Math.round(here.left - there.left), Math.round((here.top - there.top) / here.height)];
+"""
+"""The token above the carets, how far they are to its right, and how many lines below it."""
+
+
+def test_the_caret_is_below_its_token():
+    """However long the line is, and however narrow the page."""
+    long = "main {plan ~ board: part <todo: text, done: text>, first_of_them ~ another_one: id text, left hours: txt, right color: text}"
+    with started(TASKS) as window:
+        page = window.browser
+        for text, token in ((long, "txt"), (long.replace("plan", "é", 1), "é"), ("main {é ~ a: id int}", "é"), (f"{long[:-8]} ?", "?")):
+            page.run("const it = document.getElementById('program-text'); it.value = arguments[0]; it.dispatchEvent(new Event('input'))", text)
+            for width in (1280, 480):
+                page.resize(width, 800)
+                page.until(lambda: (page.run(CARET) or [None])[0] == token, lambda: f"{token} is not marked: {window.says('#program-said')}")
+                assert page.run(CARET) == [token, 0, 1], (width, page.run(CARET))
