@@ -17,7 +17,7 @@ from unittest import mock
 from editlens.browser import Browser
 from editlens.desk.complement import remembered
 from editlens.desk.desk import Desk
-from editlens.desk.drawing import drawn_document
+from editlens.desk.drawing import drawn_document, drawn_types
 from editlens.desk.keepers import RunKeeper, StoreKeeper, state_after
 from editlens.desk.loading import carried_over, fitted, judged
 from editlens.desk.replay import Replay
@@ -26,6 +26,7 @@ from editlens.json_text import read_json
 from editlens.lenses import read_lens
 from editlens.load import DoesNotFit
 from editlens.program import TOP, find_program
+from editlens.session import Session
 from editlens.store import Store
 from editlens.types import read_type
 
@@ -370,6 +371,33 @@ def test_documents_are_drawn_by_their_types():
     ty = read_type("{__proto__: keyed int, t: tree text}")
     document = {"__proto__": {"é": 2**63 - 1, "10": 1, "9": 2}, "t": {"depths": [0, 1], "items": ["", "x"]}}
     assert drawn_document(ty, document) == [[["10", "1"], ["9", "2"], ["é", str(2**63 - 1)]], [[0, ""], [1, "x"]]]
+
+
+ORDERED = """type card = {title: text, body: <memo: text, link: {url: text, at: int}>};
+main {title ~ subject: id text, cards ~ board: part <todo: card, done: card>, left note: text, right colour: text, left age: int}"""
+
+
+def names_of(drawn):
+    """The names of the fields of a drawn type in the order in which the page shows them, each with those inside it."""
+    inside = [(name, names_of(inner)) for name, inner in drawn.get("fields", ())]
+    if drawn["kind"] == "record":
+        inside = [inside[it] for it in drawn["order"]]
+    return inside if inside else names_of(drawn["inner"]) if "inner" in drawn else []
+
+
+def test_fields_are_in_the_order_of_the_program():
+    card = [("title", []), ("body", [("memo", []), ("link", [("url", []), ("at", [])])])]
+    left = [("title", []), ("cards", [("todo", card), ("done", card)]), ("note", []), ("age", [])]
+    right = [("subject", []), ("board", [("todo", card), ("done", card)]), ("colour", [])]
+    for program, wanted in ((ORDERED, (left, right)), (ORDERED.replace("main", "main inv"), (right, left))):
+        with Session(program) as session:
+            drawn = drawn_types(session.types, read_lens(program))
+            assert (names_of(drawn["left"]), names_of(drawn["right"])) == wanted, drawn
+            # Documents are sent as before: the order is of what is shown alone.
+            assert [name for name, _ in drawn["left"]["fields"]] == session.types["left"].names()
+    with Session("main then(id {b: int, a: int}, disc {a: int, b: int} {z: text, y: text})") as session:
+        drawn = drawn_types(session.types, read_lens(session.program))
+        assert (names_of(drawn["left"]), names_of(drawn["right"])) == ([("b", []), ("a", [])], [("z", []), ("y", [])]), drawn
 
 
 def called(*words, **more):
