@@ -136,3 +136,62 @@ def test_the_caret_is_below_its_token():
                 page.resize(width, 800)
                 page.until(lambda: (page.run(CARET) or [None])[0] == token, lambda: f"{token} is not marked: {window.says('#program-said')}")
                 assert page.run(CARET) == [token, 0, 1], (width, page.run(CARET))
+
+
+CARDS = """type card = {title: text, note: text, points: int};
+main {name ~ name: id text, cards ~ cards: each id card, map ~ map: keyed id card, plan ~ plan: tree id card, words ~ words: tree id text}"""
+TITLES = "return [...document.querySelectorAll(`#${arguments[0]} [data-place^='/${arguments[1]}/'] > .fold`)].map((it) => it.innerText.trim())"
+FIELDS_OF = "return [...document.querySelectorAll(`#left [data-place='${arguments[0]}'] .name`)].map((it) => it.innerText)"
+
+
+def cards(count):
+    """Documents of CARDS with so many cards in each place, which all have a title."""
+    all_of = [{"title": f"Card {number}", "note": "", "points": number} for number in range(count)]
+    tree = {"depths": [0, *[1] * (count - 1)], "items": all_of}
+    words = {"depths": [0, 1, 2, 1], "items": ["top", "one", "below", "two"]}
+    return {"name": "", "cards": all_of, "map": {f"k{number}": it for number, it in enumerate(all_of)}, "plan": tree, "words": words}
+
+
+def test_many_contents_are_folded_to_their_titles():
+    """Of many records the titles are shown, and each is unfolded where it stands, by keyboard too. What is unfolded stays so where it is moved."""
+    with started(CARDS, cards(20)) as window:
+        page = window.browser
+        for field in ("cards", "map", "plan"):
+            numbers = sorted(range(20), key=str) if field == "map" else range(20)
+            titles = page.run(TITLES, "left", field)
+            assert titles == [f"▸\nCard {number}" for number in numbers], titles
+        assert page.run(FIELDS_OF, "/cards/3") == []
+        window.focus(window.control("left", ("cards", 3), "fold"))
+        page.press("Enter")
+        page.until(lambda: page.run(FIELDS_OF, "/cards/3") == ["title", "note", "points"], lambda: page.run(FIELDS_OF, "/cards/3"))
+        assert page.run("return document.activeElement.getAttribute('aria-expanded')") == "true"
+        window.click("left", ("cards", 3), "up")
+        window.after(1)
+        assert page.run(FIELDS_OF, "/cards/2") == ["title", "note", "points"] and page.run(FIELDS_OF, "/cards/3") == []
+        window.click("left", ("cards",), "add")
+        window.after(2)
+        assert page.run("return document.activeElement.dataset.key") == "/cards/20/title|value"
+        page.click(window.control("left", ("cards",), "fold-all"))
+        assert page.run(FIELDS_OF, "/cards/9") == ["title", "note", "points"]
+        page.click(window.control("right", ("words", "items", 1), "branch"))
+        shown = "return [...document.querySelectorAll('#right [data-place^=\"/words/items/\"]')].map((it) => it.dataset.place.split('/')[3])"
+        assert page.run(shown) == ["0", "1", "3"], page.run(shown)
+
+
+def test_a_filter():
+    """Only what has the text is shown, with its true place, so that what is done there is done to it."""
+    with started(CARDS, cards(20)) as window:
+        page = window.browser
+        window.focus("#left .filter")
+        page.press(*"card 17")
+        shown = "return [...document.querySelectorAll('#left .entry')].map((it) => it.dataset.place)"
+        page.until(lambda: page.run(shown) == ["/cards/17", "/map/k17", "/plan/items/17"], lambda: page.run(shown))
+        assert "1 of 20 items" in window.says("#left [data-place='/cards']")
+        window.write("left", ("cards", 17, "points"), "99", "Enter")
+        window.after(1)
+        window.click("left", ("cards", 17), "remove")
+        window.after(2)
+        kept = window.desk.keeper.documents["left"]["cards"]
+        assert [it["points"] for it in kept] == [number for number in range(20) if number != 17], kept
+        page.run("const it = document.querySelector('#left .filter'); it.value = ''; it.dispatchEvent(new Event('input'))")
+        assert len(page.run(shown)) > 60 and page.run("return document.querySelectorAll('#right .entry').length") > 60

@@ -314,6 +314,8 @@ def test_a_document_of_2000_records():
         page, value = window.browser, lambda side, path: window.browser.run(shown, window.control(side, path))
         # However many records there are, a page draws so few of them that it is drawn at once.
         assert page.run(drawn) == 100, page.run(drawn)
+        for side, field in (("left", "people"), ("right", "rows")):
+            window.click(side, (field,), "fold-all")
         window.write("left", ("people", 1, "name"), "Ida", "Enter")
         window.after(1)
         assert value("right", ("rows", 1, "title")) == "Ida" and page.run(drawn) == 100

@@ -15,6 +15,7 @@ import { Verbatim, editAt, pathWithout, pointer, writeJson } from "./words.js";
 
 const SIDES = ["left", "right"];
 const OTHER = { left: "right", right: "left" };
+const CONTAINER = /"kind":"(list|keyed|tree)"/;
 const MARKS = { set: "changed", new: "new", moved: "moved" };
 
 /** One side of the page: it draws its document, and finds the places in it. */
@@ -23,6 +24,8 @@ class Side {
     this.side = name;
     this.desk = desk;
     this.pages = new Map();
+    this.folds = new Map();
+    this.filter = "";
     this.refusal = null;
     this.root = byId(name).querySelector(".document");
     this.root.addEventListener("pointerover", (event) => desk.pointedAt(this, event.target));
@@ -31,6 +34,19 @@ class Side {
     const byHand = byId(name).querySelector(".by-hand");
     byHand.querySelector("button").addEventListener("click", () => desk.sendText(this, byHand.querySelector("textarea").value));
     byHand.hidden = true;
+    this.filterInput = byId(name).querySelector(".filter");
+    this.filterInput.addEventListener("input", () => this.filterBy(this.filterInput.value));
+  }
+
+  /** Shows what has a text inside alone. */
+  filterBy(text) {
+    this.filter = text.trim().toLowerCase();
+    this.pages.clear();
+    this.redraw();
+  }
+
+  endFilter() {
+    this.filterInput.value = this.filter = "";
   }
 
   get version() { return this.desk.state.version; }
@@ -68,6 +84,8 @@ class Side {
     this.isDrawing = true;
     this.root.replaceChildren(drawDocument(type, document, this));
     this.isDrawing = false;
+    this.drawn = new Map([...this.root.querySelectorAll("[data-place]")].map((it) => [it.dataset.place, it]));
+    this.filterInput.hidden = !CONTAINER.test(JSON.stringify(type));
     byId(this.side).querySelector(".by-hand").hidden = !this.canEdit;
     this.markChanges(changes);
     this.showRefusal();
@@ -78,16 +96,23 @@ class Side {
   at(place) {
     const names = place.split("/");
     while (names.length) {
-      const found = this.root.querySelector(`[data-place="${CSS.escape(names.join("/"))}"]`);
+      const found = this.drawn.get(names.join("/"));
       if (found) return found;
       names.pop();
     }
     return this.root;
   }
 
+  /** The element of a place, or the folded one around it. Null where neither is drawn. */
+  shown(place) {
+    const found = this.at(place);
+    return found.dataset.place === place || found.matches(".folded") ? found : null;
+  }
+
   markChanges(changes) {
     for (const [place, sort] of changes) {
-      const found = this.root.querySelector(`[data-place="${CSS.escape(place)}"]`);
+      const found = this.shown(place);
+      if (found?.matches(".folded") && found.querySelector(".mark")) continue;
       const mark = element("span", { class: "mark" }, MARKS[sort]);
       const head = found?.querySelector(":scope > .row-head");
       if (found?.matches(".row.compact")) found.append(mark);
@@ -154,12 +179,13 @@ class Page {
     this.step = null;
     this.refusal = null;
     this.versions = new Versions();
-    this.turns = new Turns();
+    this.turns = new Turns(() => this.showUndo());
     this.drawn = Promise.resolve();
     this.sides = Object.fromEntries(SIDES.map((it) => [it, new Side(it, this)]));
     this.steps = new Steps((step) => this.go(step));
     this.program = new ProgramEditor((text) => call("check", { program: text }), (text) => this.load(text));
-    byId("undo").addEventListener("click", () => this.ask("undo", {}, "Taking the last change back"));
+    for (const name of ["undo", "redo"]) byId(name).addEventListener("click", () => this.goBack(name));
+    document.addEventListener("keydown", (event) => this.pressed(event));
     byId("message-close").addEventListener("click", () => { byId("message").hidden = true; });
     document.addEventListener("keydown", (event) => event.key === "Escape" && this.dismiss());
     follow(() => this.refresh(), (isThere) => this.connected(isThere));
@@ -169,6 +195,29 @@ class Page {
   connected(isThere) {
     byId("connection").textContent = isThere ? "" : "The desk does not answer";
     document.body.classList.toggle("lost", !isThere);
+  }
+
+  /** Takes the last change back, or makes it again. */
+  goBack(name) {
+    return this.ask(name, {}, name === "undo" ? "Taking the last change back" : "Making the change again");
+  }
+
+  /** Control with Z takes back, and with Shift makes again, but not where a text is written: there it is of the text. */
+  pressed(event) {
+    const isWritten = event.target.closest("textarea, input:not([type=checkbox])");
+    if (isWritten || !(event.ctrlKey || event.metaKey) || event.key.toLowerCase() !== "z" || !this.state) return;
+    const name = event.shiftKey ? "redo" : "undo";
+    event.preventDefault();
+    if (!byId(name).hidden) this.goBack(name);
+  }
+
+  showUndo() {
+    const isBusy = this.turns.open.length > 0;
+    for (const name of ["undo", "redo"]) {
+      const has = this.state?.[name];
+      byId(name).hidden = !has?.can;
+      byId(name).setAttribute("aria-disabled", String(isBusy || has?.now === false));
+    }
   }
 
   /** Draws what the server has, behind what is on its way: no answer is drawn over that of a later question. */
@@ -195,7 +244,7 @@ class Page {
     if (!isSame) this.versions.drawn(this.state, state);
     this.state = state;
     byId("title").textContent = state.title;
-    byId("undo").hidden = !state.undo.can;
+    this.showUndo();
     if (state.fault) this.say({ cause: "failed", sentence: state.fault });
     if (isNewer) this.forget();
     if (state.mode === "replay") this.showReplayRefusal();
@@ -333,7 +382,7 @@ class Page {
     if (!place || !complement || complement.version !== version || place.dataset.place === "") return;
     const path = pathOf(place.dataset.place);
     const others = partners(this.state.lens, complement.tree, side.side, path);
-    const found = others.map((it) => this.sides[OTHER[side.side]].root.querySelector(`[data-place="${CSS.escape(it)}"]`)).filter(Boolean);
+    const found = others.map((it) => this.sides[side.otherSide].shown(it)).filter(Boolean);
     if (found.length) [place, ...found].forEach((it) => it.closest(".entry, .row")?.classList.add("tied"));
   }
 }

@@ -1,10 +1,11 @@
 // Draws a document by its type. What a person does becomes one edit, which goes to `view.send`.
 //
 // A place has `steps`, which lead an edit to it, `path`, its names in the JSON document, `label`, what it is called, and `isOwn`, whether
-// something around it is kept by this document alone.
+// something around it is kept by this document alone. `isInside` says whether it is in a list, a map or a tree.
 
 import { element, signButton } from "./elements.js";
 import { drawKeyed, drawList, drawTree } from "./containers.js";
+import { foldButton, isFolded } from "./folding.js";
 import { lossOf, lossQuestion } from "./losses.js";
 import { pointer, wholeOf } from "./words.js";
 
@@ -20,7 +21,8 @@ export function drawDocument(type, value, view) {
 
 /** The place inside another one: a field, the content of a tag, an item, a key or a node. */
 export function inside(place, step, path, label) {
-  return { steps: [...place.steps, step], path: [...place.path, ...path], label: `${place.label} ${label}`, isOwn: place.isOwn };
+  const isInside = place.isInside || step[0] === "mod";
+  return { steps: [...place.steps, step], path: [...place.path, ...path], label: `${place.label} ${label}`, isOwn: place.isOwn, isInside };
 }
 
 /** The key of a control, by which the focus finds it again. */
@@ -62,7 +64,11 @@ export function drawRow(name, type, value, place, view) {
     const tools = element("span", { class: "row-tools" });
     row.setAttribute("role", "group");
     row.setAttribute("aria-label", place.label);
-    row.append(element("div", { class: "row-head" }, heading, note, tools), drawValue(type, value, within, view, tools));
+    const isIn = isFolded("", pointer(place.path), 0, view);
+    const fold = foldButton(pointer(place.path), isIn, place.label, name, keyOf(place, "fold"), view);
+    row.append(element("div", { class: "row-head" }, fold, note, tools));
+    if (isIn) row.classList.add("folded");
+    else row.append(drawValue(type, value, within, view, tools));
   }
   return row;
 }

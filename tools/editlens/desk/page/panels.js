@@ -20,6 +20,7 @@ function translated(entry) {
 
 function entryLines(entry) {
   const said = element("p", { class: "said" }, entry.sentences.join("; ") || "nothing changed");
+  if (entry.taken) return [element("p", { class: "said" }, `Taken back: ${entry.sentences.join("; ")}`)];
   const words = entry.undo
     ? [wordLine("left document", entry.edit), wordLine("right document", entry.word)]
     : [wordLine(`sent to the ${entry.side} document`, entry.edit), translated(entry)];
@@ -67,7 +68,8 @@ export function drawComplement(state) {
 /** The history, the newest change first. */
 export function drawHistory(state) {
   byId("history").hidden = state.mode === "replay";
-  const said = (it) => (it.undo ? "the last change taken back" : it.sentences.join("; "));
+  const back = (it) => (it.taken ? `taken back: ${it.sentences.join("; ")}` : "the last change taken back");
+  const said = (it) => (it.undo ? back(it) : it.sentences.join("; "));
   const way = (it) => (it.undo ? null : element("span", { class: "way" }, ` ${it.side} → ${OTHER[it.side]}`));
   const items = [...state.history].reverse().map((it) =>
     element("li", { value: it.version }, element("span", { class: "said" }, said(it)), way(it)));

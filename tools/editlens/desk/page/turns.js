@@ -2,9 +2,10 @@
 
 import { byId } from "./elements.js";
 
-/** The things that were asked for. `last` is kept when each of them has its answer. */
+/** The things that were asked for. `last` is kept when each of them has its answer. `changed` is called with whether any has none yet. */
 export class Turns {
-  constructor() {
+  constructor(changed) {
+    this.changed = changed;
     this.last = Promise.resolve();
     this.open = [];
   }
@@ -28,6 +29,6 @@ export class Turns {
     byId("busy").textContent = isBusy ? `${this.open[0].words} …` : "";
     document.body.classList.toggle("working", isBusy);
     for (const name of ["left", "right"]) byId(name).setAttribute("aria-busy", String(isBusy));
-    byId("undo").setAttribute("aria-disabled", String(isBusy));
+    this.changed(isBusy);
   }
 }
