@@ -85,12 +85,36 @@ def test_edits_are_taken_one_after_another():
         assert (said["cause"], said["place"], said["allowed"]) == ("range", "/board/todo", "from 1 to 1 items, which is all that it has"), said
         said = sent(server, "edit", base=1, side="left", edit=[{"ins": 0}])
         assert said["cause"] == "not-an-edit" and "from 1 to 65536" in said["sentence"], said
-        said = sent(server, "undo", base=1)
-        assert not said["ok"] and "no store" in said["sentence"], said
         state = json.loads(asked(server, "GET", f"/{server.token}/state")[2])
         assert (state["version"], state["sides"]["right"]["document"]) == (1, [[[], ["Paint"]], ""]), state
         assert state["sides"]["right"]["changes"] == [["/board/todo/0", "new"]], state["sides"]["right"]
         assert [it["shared"] for _, it in state["sides"]["left"]["type"]["fields"]] == [False, True]
+
+
+def test_undo_and_redo_of_a_session():
+    """A session in no store takes back one change after another, complement and all, down to where it began, and makes them again."""
+    keeper = RunKeeper(TASKS)
+    keeper.begin({"hours": 1, "plan": [{"todo": "Lock"}]})
+    desk, states = Desk(keeper, "tasks"), []
+    state = lambda: (dict(keeper.documents), keeper.reader()())
+    with served(desk) as server:
+        for base, (side, edit) in enumerate([("left", PAINT), ("right", [{"at": ["color", [{"set": "red"}]]}])]):
+            states.append(state())
+            assert sent(server, "edit", base=base, side=side, edit=edit)["ok"]
+        states.append(state())
+        assert sent(server, "undo", base=1)["cause"] == "stale" and not sent(server, "redo", base=2)["ok"]
+        for version, wanted in ((3, states[1]), (4, states[0])):
+            assert sent(server, "undo", base=version - 1) == {"ok": True, "version": version} and state() == wanted, state()
+        said = sent(server, "undo", base=4)
+        assert not said["ok"] and "nothing to take back" in said["sentence"] and state() == states[0], said
+        assert desk.history[-1]["sentences"][0] == "left: plan: 1 item added at the end" and desk.history[-1]["undo"]
+        # What was begun before a change was taken back may mean another place now, wherever it is.
+        assert [desk.state()["sides"][side]["changes"] for side in ("left", "right")] == [[["", "set"]]] * 2
+        assert sent(server, "redo", base=4)["ok"] and state() == states[1] and sent(server, "redo", base=5)["ok"] and state() == states[2]
+        assert sent(server, "undo", base=6)["ok"] and sent(server, "edit", base=7, side="left", edit=EIGHT)["ok"]
+        said = sent(server, "redo", base=8)
+        assert not said["ok"] and "nothing to make again" in said["sentence"], said
+        keeper.session.close()
 
 
 def test_two_edits_at_once():

@@ -169,11 +169,11 @@ class _Handler(BaseHTTPRequestHandler):
         if path == "check":
             self._send_json(self._judged(_member(body, "program", str)))
             return
-        if path not in ("edit", "undo", "load") or not desk.can_edit:
+        if path not in ("edit", "undo", "redo", "load") or not desk.can_edit:
             raise BadRequest(404, "there is no such call")
         base = _member(body, "base", int)
-        if path == "undo":
-            said = desk.undo(base)
+        if path in ("undo", "redo"):
+            said = getattr(desk, path)(base)
         elif path == "load":
             said = desk.load(base, _member(body, "program", str))
         else:
