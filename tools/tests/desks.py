@@ -20,8 +20,10 @@ from editlens.desk.desk import Desk
 from editlens.desk.drawing import drawn_document, drawn_types
 from editlens.desk.keepers import RunKeeper, StoreKeeper, state_after
 from editlens.desk.loading import carried_over, fitted, judged
+from editlens.desk.news import at_path, replaced
 from editlens.desk.replay import Replay
 from editlens.desk.server import DeskDied, DeskServer, MOST_BODY
+from editlens.edits import NoApply, act
 from editlens.json_text import read_json
 from editlens.lenses import read_lens
 from editlens.load import DoesNotFit
@@ -31,6 +33,7 @@ from editlens.store import Store
 from editlens.types import read_type
 
 from . import PATIENCE
+from .chance import some_document, some_edit, some_type
 
 TASKS = "main {plan ~ board: part <todo: text, done: text>, left hours: int, right color: text}"
 DESK = os.path.join(TOP, "tools", "desk")
@@ -422,6 +425,53 @@ def test_fields_are_in_the_order_of_the_program():
     with Session("main then(id {b: int, a: int}, disc {a: int, b: int} {z: text, y: text})") as session:
         drawn = drawn_types(session.types, read_lens(session.program))
         assert (names_of(drawn["left"]), names_of(drawn["right"])) == ([("b", []), ("a", [])], [("z", []), ("y", [])]), drawn
+
+
+def with_value(document, path, value):
+    """A document of JSON with another value at a path."""
+    if not path:
+        return value
+    inner = with_value(document[path[0]], path[1:], value)
+    return [*document[: path[0]], inner, *document[path[0] + 1 :]] if isinstance(document, list) else {**document, path[0]: inner}
+
+
+def test_what_an_edit_replaced():
+    """The values at the places that an edit replaced make the document after it of the one before it."""
+    made, parts = 0, 0
+    for _ in range(3_000):
+        ty = some_type()
+        before = some_document(ty)
+        edit = some_edit(ty, before)
+        with contextlib.suppress(NoApply):
+            after, paths = act(ty, before, edit), replaced(ty, edit)
+            found = before
+            for path in paths:
+                found = with_value(found, path, at_path(ty, after, path)[1])
+            assert found == after, (ty, before, edit, paths)
+            made += bool(edit)
+            parts += () not in paths and bool(paths)
+    assert made > 1_000 and parts > 300, (made, parts)
+
+
+def test_a_window_gets_what_is_new_alone():
+    """After an edit of one of many records a window gets that record's value, and no document, type or complement that it has."""
+    keeper = RunKeeper("main {rows ~ rows: each {name ~ title: id text, left note: text}}")
+    keeper.begin({"rows": [{"name": f"row {it}", "note": ""} for it in range(500)]})
+    desk = Desk(keeper, "many")
+    with served(desk) as server:
+        state = lambda query: asked(server, "GET", f"/{server.token}/state{query}")[2]
+        Browser.until(lambda: desk.complement, "the complement does not come")
+        whole = state("")
+        assert "row 499" in whole and "row 499" in state("?session=0&version=7") and "row 499" in state("?session=9&version=0")
+        assert len(state("?session=0&version=0&complement=0")) < 1_000
+        edit = [{"at": ["rows", [{"mod": [3, [{"at": ["name", [{"set": "Ida"}]]}]]}]]}]
+        assert sent(server, "edit", base=0, side="left", edit=edit)["ok"]
+        Browser.until(lambda: desk.complement["version"] == 1, "the complement does not come")
+        said = state("?session=0&version=0&complement=1")
+        assert len(said) < 2_000 < len(whole), said
+        sides = json.loads(said)["sides"]
+        assert sides["left"]["replaced"] == [[["rows", 3, "name"], "Ida"]] and sides["right"]["replaced"] == [[["rows", 3, "title"], "Ida"]], sides
+        assert json.loads(state("?session=0&version=0&complement=0"))["complement"]["version"] == 1
 
 
 def called(*words, **more):

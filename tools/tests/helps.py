@@ -171,8 +171,10 @@ def test_many_contents_are_folded_to_their_titles():
         window.click("left", ("cards",), "add")
         window.after(2)
         assert page.run("return document.activeElement.dataset.key") == "/cards/20/title|value"
-        page.click(window.control("left", ("cards",), "fold-all"))
-        assert page.run(FIELDS_OF, "/cards/9") == ["title", "note", "points"]
+        for fields in ([], ["title", "note", "points"]):
+            # The first press folds what is open, and the next one unfolds all.
+            page.click(window.control("left", ("cards",), "fold-all"))
+            assert [page.run(FIELDS_OF, f"/cards/{number}") for number in (2, 9)] == [fields] * 2
         page.click(window.control("right", ("words", "items", 1), "branch"))
         shown = "return [...document.querySelectorAll('#right [data-place^=\"/words/items/\"]')].map((it) => it.dataset.place.split('/')[3])"
         assert page.run(shown) == ["0", "1", "3"], page.run(shown)

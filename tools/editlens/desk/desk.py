@@ -17,8 +17,8 @@ from .complement import remembered
 from .drawing import drawn_changes, drawn_document, drawn_lens, drawn_types
 from .keepers import RunKeeper
 from .loading import carried_over, judged
+from .news import at_path, replaced
 
-OTHER = {"left": "right", "right": "left"}
 MOST_HISTORY = 200
 MOST_SENTENCES = 5
 MOST_REST = 30
@@ -36,27 +36,28 @@ class Desk:
     def __init__(self, keeper, title, notices=()):
         self.keeper, self.title, self.notices = keeper, title, list(notices)
         self.version = self.session = self.signal = 0
-        self.history, self.changes = [], {}
+        self.history, self.changes, self.replaced = [], {}, None
         self.complement = None
         self.fault, self.death, self.is_closed = None, None, False
         self.news = threading.Condition(threading.RLock())
         self.lens = read_lens(keeper.program)
         threading.Thread(target=self._follow, daemon=True).start()
 
-    def state(self, _step=0):
-        """Everything that a window draws. Steps are those of a replay."""
+    def state(self, _step=0, known=(None, None, None)):
+        """Everything that a window draws. Steps are those of a replay.
+
+        `known` is what a window has: a session, a version, and the version of its complement. That is left out, and a document of the
+        version before comes as the values that the last change replaced.
+        """
         with self.news:
             keeper = self.keeper
-            types = drawn_types(keeper.types, self.lens)
             return {
                 "mode": "store" if keeper.is_store else "session",
                 "title": self.title,
                 "version": self.version,
                 "session": self.session,
-                "program": keeper.program,
-                "lens": drawn_lens(self.lens),
-                "sides": {side: {"type": types[side], **self._drawn(side)} for side in types},
-                "complement": self.complement,
+                **self._documents_for(*known[:2]),
+                **self._complement_for(known[0], known[2]),
                 "history": self.history,
                 "notices": self.notices,
                 "fault": self.fault,
@@ -64,9 +65,27 @@ class Desk:
                 "redo": {"can": not keeper.is_store, "now": bool(keeper.undone)},
             }
 
+    def _documents_for(self, session, version):
+        if (session, version) == (self.session, self.version):
+            return {}
+        if (session, version) == (self.session, self.version - 1) and self.replaced is not None:
+            return {"sides": {side: self._replaced(side) for side in self.keeper.types}}
+        types = drawn_types(self.keeper.types, self.lens)
+        sides = {side: {"type": types[side], **self._drawn(side)} for side in types}
+        return {"program": self.keeper.program, "lens": drawn_lens(self.lens), "sides": sides}
+
+    def _complement_for(self, session, version):
+        is_known = session == self.session and self.complement is not None and self.complement["version"] == version
+        return {} if is_known else {"complement": self.complement}
+
     def _drawn(self, side):
         document = drawn_document(self.keeper.types[side], self.keeper.documents[side])
         return {"document": document, "changes": drawn_changes(self.changes.get(side, ()))}
+
+    def _replaced(self, side):
+        ty, document = self.keeper.types[side], self.keeper.documents[side]
+        values = [[list(it), drawn_document(*at_path(ty, document, it))] for it in self.replaced[side]]
+        return {"replaced": values, "changes": drawn_changes(self.changes.get(side, ()))}
 
     def edit(self, base, side, edit):
         """Sends an edit of a side that was made for a version."""
@@ -141,6 +160,7 @@ class Desk:
             self.keeper.close()
             self.keeper, self.lens = keeper, read_lens(keeper.program)
             self.notices, self.history, self.changes, self.fault = notices, [], {}, None
+            self.replaced = None
             self.session += 1
             self._moved()
             return {"ok": True, "version": self.version, "notices": notices}
@@ -182,14 +202,16 @@ class Desk:
     def _changed(self, before, words, entry):
         types = self.keeper.types
         self.changes = {side: changed_places(types[side], before[side], word) for side, word in words.items()}
+        self.replaced = {side: replaced(types[side], word) for side, word in words.items()}
         self._moved()
         self._remember(entry["side"], words[entry["side"]], entry)
 
     def _went_back(self, side, edit):
         """The state before an edit is there again. No edit leads to it, so each place counts as changed."""
         self.changes = {name: [((), SET)] for name in self.keeper.types}
+        self.replaced = {name: [()] for name in self.keeper.types}
         self._moved()
-        self._remember(side, edit, {"side": side, "other": OTHER[side], "undo": True, "taken": True})
+        self._remember(side, edit, {"side": side, "undo": True, "taken": True})
 
     def _remember(self, side, edit, entry):
         """Puts a change into the history. Its sentences are those of an edit."""

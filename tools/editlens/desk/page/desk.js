@@ -4,6 +4,7 @@ import { call, follow, stateAt } from "./calls.js";
 import { drawDocument } from "./documents.js";
 import { startDrag } from "./dragging.js";
 import { byId, element } from "./elements.js";
+import { completed } from "./news.js";
 import { Steps, drawComplement, drawHistory, drawLast, drawNotices, refusalLines } from "./panels.js";
 import { pathOf, placeAt, typeAt } from "./places.js";
 import { plainly } from "./plain.js";
@@ -166,7 +167,10 @@ class Side {
     if (active !== undefined && active !== from) return;
     const byKey = key && this.root.querySelector(`[data-key="${CSS.escape(key)}"]`);
     const around = into !== undefined ? this.at(into) : byKey?.closest(".entry");
-    const found = byKey && !byKey.disabled ? byKey : around?.querySelector("input, select, textarea, button:not(:disabled)");
+    const controls = "input, select, textarea, button:not(:disabled):not(.fold)";
+    const first = around?.querySelector(controls) ?? around?.querySelector(".fold");
+    const written = around?.matches(".entry") ? around.querySelector("input, select, textarea") : null;
+    const found = byKey && !byKey.disabled ? byKey : written ?? first;
     found?.focus();
     found?.scrollIntoView({ block: "nearest" });
   }
@@ -227,9 +231,9 @@ class Page {
   }
 
   async refreshNow(focus) {
-    const state = await stateAt(this.step);
-    if (state.sides) this.draw(state, focus);
-    else this.say(state);
+    const said = await stateAt(this.step, this.state);
+    if (said.version === undefined || said.sentence) this.say(said);
+    else this.draw(completed(this.state, said), focus);
   }
 
   go(step) {
