@@ -63,7 +63,8 @@ REFUSED = [
 def test_refusals_in_plain_words():
     """What a control cannot do is said in a sentence at its place, without the forms of edits, which nobody wrote."""
     deep = {"depths": list(range(16)), "items": [""] * 16}
-    whole = {"costs": {"x": BIG, "y": 0}, "count": 0, "flag": False, "kind": {"none": None}, "level": "low", "name": "", "outline": deep, "secret": "", "tags": []}
+    whole = {"costs": {"x": BIG, "y": 0}, "count": 0, "flag": False, "kind": {"none": None}, "level": "low", "name": ""}
+    whole |= {"outline": deep, "secret": "", "tags": []}
     with started(ALL, whole) as window:
         for act, place, wanted in REFUSED:
             act(window)
@@ -197,3 +198,31 @@ def test_a_filter():
         assert [it["points"] for it in kept] == [number for number in range(20) if number != 17], kept
         page.run("const it = document.querySelector('#left .filter'); it.value = ''; it.dispatchEvent(new Event('input'))")
         assert len(page.run(shown)) > 60 and page.run("return document.querySelectorAll('#right .entry').length") > 60
+
+
+def test_undo_and_redo_by_keyboard():
+    """A session in no store takes its changes back and makes them again; what the page shows and says is that of the program then."""
+    with started(TASKS, {"hours": 1, "plan": [{"todo": "Paint"}]}) as window:
+        page, hours = window.browser, lambda: window.desk.keeper.documents["left"]["hours"]
+        off = lambda: page.run("return ['undo', 'redo'].map((it) => document.getElementById(it).getAttribute('aria-disabled'))")
+        window.settle()
+        page.until(lambda: off() == ["true", "true"], lambda: f"at the beginning {off()}")
+        window.write("left", ("hours",), "5", "Enter")
+        window.after(1)
+        page.until(lambda: off() == ["false", "true"], lambda: f"after a change {off()}")
+        window.focus("#undo")
+        page.press("Enter")
+        window.after(2)
+        assert hours() == 1 and "taken back: left: hours: set to 5" in window.says("#history"), window.says("#history")
+        assert "Taken back: left: hours: set to 5" in window.says("#last-edit") and off() == ["true", "false"], window.says("#last-edit")
+        assert page.run("return document.activeElement.id") == "undo"
+        page.press("Control+Shift+z")
+        window.after(3)
+        assert hours() == 5 and off() == ["false", "true"]
+        window.shows_what_the_program_says()
+        page.press("Control+z")
+        window.after(4)
+        window.shows_what_the_program_says()
+        page.press("Enter")
+        page.until(lambda: "nothing to take back" in window.says("#message-text"), "no word on what cannot be taken back")
+        assert (hours(), window.desk.version) == (1, 4)

@@ -26,6 +26,7 @@ class Side {
     this.desk = desk;
     this.pages = new Map();
     this.folds = new Map();
+    this.drawn = new Map();
     this.filter = "";
     this.refusal = null;
     this.root = byId(name).querySelector(".document");

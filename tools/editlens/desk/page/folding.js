@@ -16,7 +16,8 @@ export function isFolded(list, name, beside, view) {
 export function foldButton(name, isIn, label, title, key, view) {
   const press = () => { view.folds.set(name, !isIn); view.redraw(); };
   const said = title ? `${label}, ${title}` : label;
-  return element("button", { type: "button", class: "fold", "aria-expanded": String(!isIn), "aria-label": `${said}: its content`, title, "data-key": key, onclick: press },
+  const words = { "aria-expanded": String(!isIn), "aria-label": `${said}: its content`, title };
+  return element("button", { type: "button", class: "fold", "data-key": key, onclick: press, ...words },
     element("span", { class: "turn", "aria-hidden": "true" }, isIn ? "▸" : "▾"), element("span", { class: "fold-title" }, title));
 }
 
