@@ -201,7 +201,7 @@ def test_an_answer_that_fails_ends_the_desk():
 
     thread = threading.Thread(target=serve)
     thread.start()
-    desk.state = lambda _: 1 // 0
+    desk.state = lambda *_: 1 // 0
     try:
         asked(server, "GET", f"/{server.token}/state")
         raise AssertionError("there is an answer")
