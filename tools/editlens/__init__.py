@@ -20,7 +20,7 @@ load        the journal that builds two documents that exist
 log         the records in the file of a store
 upkeep      what one does with a store from day to day; also kinds, checkup, relens, replacement, copies
 explain     what a refusal means, with the place in the text or in the document
-lenses      the lens of a program, and `sharing`: which places of both documents it ties
+lenses      the lens of a program, `sharing`: which places of both documents it ties, and `written`: its fields in their order
 changes     the places that an edit changed, and `sentences`: an edit in words
 desk        both documents on a page in the browser; `browser` drives one for its tests and pictures
 

@@ -2,7 +2,7 @@
 
 from dataclasses import dataclass
 
-from .types import TypeReader
+from .types import Ty, TypeReader
 
 WITH_INNER = ("each", "keyed", "tree", "inv")
 
@@ -15,6 +15,7 @@ class Row:
     left: "str | None"
     right: "str | None"
     lens: "Lens | None" = None
+    type: "Ty | None" = None
 
 
 @dataclass(frozen=True)
@@ -120,8 +121,7 @@ class _Reader(TypeReader):
             if self.take(side):
                 name = self.name()
                 self.need(":")
-                self.type()
-                return Row(side, name if side == "left" else None, name if side == "right" else None)
+                return Row(side, name if side == "left" else None, name if side == "right" else None, type=self.type())
         return self.paired()
 
     def paired(self):

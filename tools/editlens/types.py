@@ -55,13 +55,17 @@ def tokens(data):
 
 @dataclass(frozen=True)
 class Ty:
-    """A type. `fields` are the fields of a record, by bytes, or the tags of alternatives, in written order."""
+    """A type. `fields` are the fields of a record, by bytes, or the tags of alternatives, in written order.
+
+    `written` are the names of the fields in the order in which a program has them, and makes no other type.
+    """
 
     kind: str
     fields: tuple = ()
     inner: "Ty | None" = None
     members: tuple = ()
     start: object = field(default=None)
+    written: tuple = field(default=(), compare=False, repr=False)
 
     def field(self, name):
         """The type of a field or of a tag's content, or None."""
@@ -150,7 +154,8 @@ class TypeReader:
             start = self.string() if self.take("=") else members[0]
             return Ty("enum", members=tuple(members), start=start)
         if self.take("{"):
-            return Ty("record", fields=tuple(sorted(self.fields("}"), key=lambda it: it[0].encode())))
+            fields = self.fields("}")
+            return Ty("record", fields=tuple(sorted(fields, key=lambda it: it[0].encode())), written=tuple(name for name, _ in fields))
         if self.take("<"):
             return Ty("alternatives", fields=tuple(self.fields(">")))
         for kind in ("list", "keyed", "tree"):

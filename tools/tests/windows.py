@@ -131,6 +131,12 @@ class Window:
         self.focus(self.control(side, path, role))
         self.browser.press(*value, "Enter")
 
+    def ask_for(self, side, path, letter):
+        """Chooses another kind by its first letter, where the page asks before it is changed: the content would go."""
+        self.focus(self.control(side, path, "tag"))
+        self.browser.press(letter)
+        self.browser.find(self.control(side, path, "tag-change"))
+
     def send(self, side, text):
         """Writes an edit by hand and sends it."""
         self.settle()

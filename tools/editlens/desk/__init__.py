@@ -4,6 +4,7 @@ keepers     where the session is kept: in a run of the program, or in a store
 desk        the session as all windows share it: its state, its edits one after another, its history
 replay      a script, step by step
 drawing     documents and types in the form in which the page reads them
+news        the places whose values a window needs after an edit
 complement  what the lens remembers, in a sentence
 loading     documents carried over to another lens program
 server      the page and its calls over HTTP, on the loopback address alone

@@ -5,7 +5,7 @@ import time
 
 from ..answers import ProgramRefused, Refused, RunEnded
 from ..causes import CAUSES
-from ..changes import changed_places
+from ..changes import SET, changed_places
 from ..edits import NoApply, act, form_fault
 from ..json_text import pointer, shown, write_json
 from ..lenses import read_lens
@@ -17,6 +17,7 @@ from .complement import remembered
 from .drawing import drawn_changes, drawn_document, drawn_lens, drawn_types
 from .keepers import RunKeeper
 from .loading import carried_over, judged
+from .news import at_path, replaced
 
 MOST_HISTORY = 200
 MOST_SENTENCES = 5
@@ -26,7 +27,7 @@ MOST_REST = 30
 class Desk:
     """The session of a desk. Its version is the number of changes since it began; an edit names the version that it was made for.
 
-    `state` is what a window draws. `edit`, `undo` and `load` return what came of them, and change nothing where they refuse. `wait`
+    `state` is what a window draws. `edit`, `undo`, `redo` and `load` return what came of them, and change nothing where they refuse. `wait`
     returns when there is something new. `death` is the fault by which its thread ended, or None.
     """
 
@@ -35,36 +36,56 @@ class Desk:
     def __init__(self, keeper, title, notices=()):
         self.keeper, self.title, self.notices = keeper, title, list(notices)
         self.version = self.session = self.signal = 0
-        self.history, self.changes = [], {}
+        self.history, self.changes, self.replaced = [], {}, None
         self.complement = None
         self.fault, self.death, self.is_closed = None, None, False
         self.news = threading.Condition(threading.RLock())
         self.lens = read_lens(keeper.program)
         threading.Thread(target=self._follow, daemon=True).start()
 
-    def state(self, _step=0):
-        """Everything that a window draws. Steps are those of a replay."""
+    def state(self, _step=0, known=(None, None, None)):
+        """Everything that a window draws. Steps are those of a replay.
+
+        `known` is what a window has: a session, a version, and the version of its complement. That is left out, and a document of the
+        version before comes as the values that the last change replaced.
+        """
         with self.news:
             keeper = self.keeper
-            types = drawn_types(keeper.types, self.lens)
             return {
-                "mode": "store" if keeper.has_undo else "session",
+                "mode": "store" if keeper.is_store else "session",
                 "title": self.title,
                 "version": self.version,
                 "session": self.session,
-                "program": keeper.program,
-                "lens": drawn_lens(self.lens),
-                "sides": {side: {"type": types[side], **self._drawn(side)} for side in types},
-                "complement": self.complement,
+                **self._documents_for(*known[:2]),
+                **self._complement_for(known[0], known[2]),
                 "history": self.history,
                 "notices": self.notices,
                 "fault": self.fault,
-                "undo": {"can": keeper.has_undo, "why": keeper.why_no_undo},
+                "undo": {"can": True, "why": "", "now": keeper.can_undo},
+                "redo": {"can": not keeper.is_store, "now": bool(keeper.undone)},
             }
+
+    def _documents_for(self, session, version):
+        if (session, version) == (self.session, self.version):
+            return {}
+        if (session, version) == (self.session, self.version - 1) and self.replaced is not None:
+            return {"sides": {side: self._replaced(side) for side in self.keeper.types}}
+        types = drawn_types(self.keeper.types, self.lens)
+        sides = {side: {"type": types[side], **self._drawn(side)} for side in types}
+        return {"program": self.keeper.program, "lens": drawn_lens(self.lens), "sides": sides}
+
+    def _complement_for(self, session, version):
+        is_known = session == self.session and self.complement is not None and self.complement["version"] == version
+        return {} if is_known else {"complement": self.complement}
 
     def _drawn(self, side):
         document = drawn_document(self.keeper.types[side], self.keeper.documents[side])
         return {"document": document, "changes": drawn_changes(self.changes.get(side, ()))}
+
+    def _replaced(self, side):
+        ty, document = self.keeper.types[side], self.keeper.documents[side]
+        values = [[list(it), drawn_document(*at_path(ty, document, it))] for it in self.replaced[side]]
+        return {"replaced": values, "changes": drawn_changes(self.changes.get(side, ()))}
 
     def edit(self, base, side, edit):
         """Sends an edit of a side that was made for a version."""
@@ -79,9 +100,7 @@ class Desk:
                 return self._refused(side, edit, why)
             except (RunEnded, DocumentsDiffer, OSError, ValueError) as why:
                 return self._failed(why)
-            words = {side: edit, answer.side: answer.word}
-            self._changed(before, words, {"side": side, "edit": write_json(edit), "other": answer.side, "word": write_json(answer.word)})
-            return {"ok": True, "version": self.version}
+            return self._taken(before, side, edit, answer)
 
     def undo(self, base):
         """Takes the last change back."""
@@ -89,18 +108,35 @@ class Desk:
             stale = self._stale(base)
             if stale:
                 return stale
-            if not self.keeper.has_undo:
-                return {"ok": False, "sentence": self.keeper.why_no_undo}
+            if not self.keeper.can_undo:
+                return {"ok": False, "sentence": "There is nothing to take back: nothing was changed since this session began."}
             before = dict(self.keeper.documents)
             try:
-                words = self.keeper.undo()
+                done = self.keeper.undo()
             except StoreRefused as why:
                 return {"ok": False, "sentence": _no_undo(why)}
             except (RunEnded, StoreBusy, DocumentsDiffer, OSError) as why:
                 return self._failed(why)
-            left, right = (write_json(words[it]) for it in ("left", "right"))
-            self._changed(before, words, {"side": "left", "edit": left, "other": "right", "word": right, "undo": True})
+            if self.keeper.is_store:
+                left, right = (write_json(done[it]) for it in ("left", "right"))
+                self._changed(before, done, {"side": "left", "edit": left, "other": "right", "word": right, "undo": True})
+            else:
+                self._went_back(*done)
             return {"ok": True, "version": self.version}
+
+    def redo(self, base):
+        """Makes the change again that was taken back last."""
+        with self.news:
+            stale = self._stale(base)
+            if stale:
+                return stale
+            if not self.keeper.undone:
+                return {"ok": False, "sentence": "There is nothing to make again: the last change was not taken back."}
+            before = dict(self.keeper.documents)
+            try:
+                return self._taken(before, *self.keeper.redo())
+            except (Refused, RunEnded, DocumentsDiffer, OSError) as why:
+                return self._failed(why)
 
     def check(self, program_text):
         """What the program says of another lens program."""
@@ -112,7 +148,7 @@ class Desk:
             stale = self._stale(base)
             if stale:
                 return stale
-            if self.keeper.has_undo:
+            if self.keeper.is_store:
                 return {"ok": False, "sentence": "A store keeps the lens program that it was made with. tools/load --store makes a new store."}
             try:
                 keeper = RunKeeper(program_text)
@@ -124,6 +160,7 @@ class Desk:
             self.keeper.close()
             self.keeper, self.lens = keeper, read_lens(keeper.program)
             self.notices, self.history, self.changes, self.fault = notices, [], {}, None
+            self.replaced = None
             self.session += 1
             self._moved()
             return {"ok": True, "version": self.version, "notices": notices}
@@ -157,17 +194,35 @@ class Desk:
             "since": said[:MOST_SENTENCES] + more or ["another lens program was loaded"],
         }
 
+    def _taken(self, before, side, edit, answer):
+        words = {side: edit, answer.side: answer.word}
+        self._changed(before, words, {"side": side, "edit": write_json(edit), "other": answer.side, "word": write_json(answer.word)})
+        return {"ok": True, "version": self.version}
+
     def _changed(self, before, words, entry):
         types = self.keeper.types
         self.changes = {side: changed_places(types[side], before[side], word) for side, word in words.items()}
-        said = list(sentences(words[entry["side"]])) or ["nothing"]
+        self.replaced = {side: replaced(types[side], word) for side, word in words.items()}
         self._moved()
+        self._remember(entry["side"], words[entry["side"]], entry)
+
+    def _went_back(self, side, edit):
+        """The state before an edit is there again. No edit leads to it, so each place counts as changed."""
+        self.changes = {name: [((), SET)] for name in self.keeper.types}
+        self.replaced = {name: [()] for name in self.keeper.types}
+        self._moved()
+        self._remember(side, edit, {"side": side, "undo": True, "taken": True})
+
+    def _remember(self, side, edit, entry):
+        """Puts a change into the history. Its sentences are those of an edit."""
+        said = list(sentences(edit)) or ["nothing"]
         kept = said[:MOST_SENTENCES] + ([f"and {len(said) - MOST_SENTENCES} more"] if len(said) > MOST_SENTENCES else [])
         for older in self.history[-1:]:
             # A person reads the edits of the last change alone, and those of a long history are long.
-            del older["edit"], older["word"]
+            older.pop("edit", None)
+            older.pop("word", None)
         del self.history[: 1 - MOST_HISTORY]
-        self.history.append({"version": self.version, "sentences": [f"{entry['side']}: {it}" for it in kept], **entry})
+        self.history.append({"version": self.version, "sentences": [f"{side}: {it}" for it in kept], **entry})
 
     def _moved(self):
         self.version += 1

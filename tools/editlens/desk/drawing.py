@@ -6,6 +6,7 @@ and maps as arrays. The type says which is which.
 
 from ..json_text import pointer
 from ..sharing import INSIDE, is_shared, shared_places
+from ..written import in_written_order
 
 
 def drawn_document(ty, document):
@@ -32,17 +33,20 @@ def drawn_type(ty, shared, path=()):
     if ty.kind in ("record", "alternatives"):
         step = "at" if ty.kind == "record" else "stay"
         drawn["fields"] = [[name, drawn_type(inner, shared, (*path, (step, name)))] for name, inner in ty.fields]
+        drawn["order"] = [ty.names().index(it) for it in ty.written or ty.names()]
     elif ty.inner:
         drawn["inner"] = drawn_type(ty.inner, shared, (*path, INSIDE))
     elif ty.kind == "enum":
         drawn["members"] = list(ty.members)
+    if ty.kind in ("int", "text", "enum"):
+        drawn["start"] = drawn_document(ty, ty.start)
     return drawn
 
 
 def drawn_types(types, lens):
-    """The types of both sides, marked by what the lens ties."""
+    """The types of both sides, marked by what the lens ties. Documents have the fields of a record by bytes; `order` is that of the program."""
     shared = shared_places(lens)
-    return {side: drawn_type(ty, shared[side]) for side, ty in types.items()}
+    return {side: drawn_type(in_written_order(ty, lens, side), shared[side]) for side, ty in types.items()}
 
 
 def drawn_lens(lens):

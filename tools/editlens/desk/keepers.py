@@ -1,12 +1,12 @@
 """Where the session of a desk is kept: in a run of the program, which keeps nothing, or in a store.
 
 Both have the program's text, both types, both documents and the complement. `entry` sends an edit of a side; a refused one is raised as
-Refused. `undo` takes the last change back where there is a store.
+Refused. `undo` takes the last change back. A session in no store can take back one change after another, and `redo` makes them again.
 """
 
 import subprocess
 
-from ..answers import RunEnded
+from ..answers import Refused, RunEnded
 from ..construct import set_steps, words_of
 from ..documents import misfits
 from ..json_text import read_json, write_json
@@ -14,20 +14,19 @@ from ..lines import lines_of
 from ..load import DoesNotFit, load_words
 from ..open_store import stored_program
 from ..parts import SEPARATOR, program_of
-from ..session import Session
+from ..session import DocumentsDiffer, Session
 from ..store import Store
 
 
 class RunKeeper:
-    """A session in one run of the program. The lines that were accepted are kept, since a run writes its complement only at its end."""
+    """A session in one run of the program. The lines that were accepted are kept: a run writes its complement only at its end, and has no undo."""
 
-    why_no_undo = "Nothing can be undone: this session is in no store. Open one with --store."
-    has_undo = False
+    is_store = False
 
     def __init__(self, program_text, path=None):
         self.program = program_of(program_text)
         self.session = Session(self.program, path)
-        self.lines = []
+        self.lines, self.first, self.undone = [], 0, []
 
     @property
     def types(self):
@@ -43,7 +42,37 @@ class RunKeeper:
         """Sends an edit, and returns its answer."""
         answer = self.session.entry(side, edit)
         self.lines.append(write_json({"side": side, "edit": edit}))
+        self.undone = []
         return answer
+
+    @property
+    def can_undo(self):
+        """Whether an entry came since the session began."""
+        return len(self.lines) > self.first
+
+    def undo(self):
+        """Goes back to the state before the last entry, and returns its side and its edit. Another run takes the entries before it again."""
+        earlier = Session(self.program, self.session.path)
+        try:
+            for line in self.lines[:-1]:
+                if isinstance(earlier.line(line), Refused):
+                    raise DocumentsDiffer
+        except BaseException:
+            earlier.stop()
+            raise
+        self.session.process.stop()
+        self.session, last = earlier, self.lines.pop()
+        self.undone.append(last)
+        entry = read_json(last)
+        return entry["side"], entry["edit"]
+
+    def redo(self):
+        """Sends the entry again that was taken back last. Returns its side, its edit and its answer."""
+        *undone, line = self.undone
+        entry = read_json(line)
+        answer = self.entry(entry["side"], entry["edit"])
+        self.undone = undone
+        return entry["side"], entry["edit"], answer
 
     def begin(self, left=None, right=None):
         """Builds documents that exist, and returns where they disagree. Raises DoesNotFit."""
@@ -60,6 +89,7 @@ class RunKeeper:
             entries = []
         for side, word in entries:
             self.entry(side, word)
+        self.first = len(self.lines)
         return disagreements
 
     def reader(self):
@@ -82,10 +112,9 @@ def state_after(program, lines, path):
 
 
 class StoreKeeper:
-    """A session in a store, which is kept open: no other program writes to it until `close`."""
+    """A session in a store, which is kept open: no other program writes to it until `close`. The program says whether there is an undo."""
 
-    why_no_undo = ""
-    has_undo = True
+    is_store, can_undo, undone = True, True, ()
 
     def __init__(self, folder, path=None):
         self.client = Store.open(folder, path)

@@ -151,9 +151,8 @@ class _Handler(BaseHTTPRequestHandler):
     def _get(self, path):
         desk, name = self.server.desk, path or "desk.html"
         if path == "state":
-            step = parse_qs(urlsplit(self.path).query).get("step", ["0"])[0]
-            is_step = step.isascii() and step.isdigit() and len(step) < 10
-            self._send_json(desk.state(int(step) if is_step else 0))
+            step, *known = (self._number(it) for it in ("step", "session", "version", "complement"))
+            self._send_json(desk.state(step or 0, known))
         elif path == "events":
             self._stream()
         elif name in self.server.files:
@@ -162,6 +161,11 @@ class _Handler(BaseHTTPRequestHandler):
         else:
             raise BadRequest(404, "there is no such page")
 
+    def _number(self, name):
+        """A number of the query, or None where there is none."""
+        text = parse_qs(urlsplit(self.path).query).get(name, [""])[0]
+        return int(text) if text.isascii() and text.isdigit() and len(text) < 10 else None
+
     def _post(self, path):
         if "Origin" not in self.headers:
             raise BadRequest(403, "the Origin is missing")
@@ -169,11 +173,11 @@ class _Handler(BaseHTTPRequestHandler):
         if path == "check":
             self._send_json(self._judged(_member(body, "program", str)))
             return
-        if path not in ("edit", "undo", "load") or not desk.can_edit:
+        if path not in ("edit", "undo", "redo", "load") or not desk.can_edit:
             raise BadRequest(404, "there is no such call")
         base = _member(body, "base", int)
-        if path == "undo":
-            said = desk.undo(base)
+        if path in ("undo", "redo"):
+            said = getattr(desk, path)(base)
         elif path == "load":
             said = desk.load(base, _member(body, "program", str))
         else:

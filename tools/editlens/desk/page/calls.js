@@ -12,8 +12,12 @@ async function answered(request) {
   }
 }
 
-/** What a window draws. In a replay, at a step. */
-export const stateAt = (step) => answered(fetch(step === null ? "state" : `state?step=${step}`));
+/** What a window draws: in a replay at a step, else what is new where a state is known already. */
+export function stateAt(step, known) {
+  if (step !== null) return answered(fetch(`state?step=${step}`));
+  if (!known) return answered(fetch("state"));
+  return answered(fetch(`state?session=${known.session}&version=${known.version}&complement=${known.complement?.version ?? ""}`));
+}
 
 /** A call with a body, whose numbers may be whole numbers of 64 bits. */
 export const call = (name, body) =>

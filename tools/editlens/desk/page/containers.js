@@ -2,6 +2,7 @@
 
 import { element, signButton } from "./elements.js";
 import { drawValue, inside, isCompact, keyOf, sharing, typedInto } from "./documents.js";
+import { carryFolds, filtered, foldAllButton, foldButton, hasText, isFolded, titleOf } from "./folding.js";
 import { liftNode, nestNode, nodesOf, pointer, removeItem, removeNode } from "./words.js";
 
 /** So many contents are drawn at once. */
@@ -29,17 +30,38 @@ function turnTo(number, place, view) {
   view.pages.set(pointer(place.path), Math.floor(number / MOST));
 }
 
-function counted(count, one, many) {
-  return `${count.toLocaleString("en")} ${count === 1 ? one : many}`;
+/** Lets a content that is added be seen: its part of the container, unfolded, whatever the filter was. */
+function show(number, path, place, view) {
+  if (number !== null) turnTo(number, place, view);
+  view.folds.set(pointer([...place.path, ...path]), false);
+  view.endFilter();
 }
 
-/** An entry of a container: a handle to drag it, its content, and its tools. A content of many lines comes last, below the others. */
-function drawEntry(type, value, within, view, { handle, front, tools, indent = 0 }) {
+function counted(shown, count, one, many) {
+  const said = `${count.toLocaleString("en")} ${count === 1 ? one : many}`;
+  return element("span", { class: "count" }, shown === count ? said : `${shown.toLocaleString("en")} of ${said}`);
+}
+
+/** The tools at the head of a container: how much it holds, and a button that folds all contents of several lines. */
+function headOf(contents, count, place, view, [one, many], tools) {
+  tools.append(counted(contents.length, count, one, many));
+  const wide = contents.filter(({ type, value }) => !isCompact(type, value));
+  const names = wide.slice(0, MOST).map(({ path }) => pointer([...place.path, ...path]));
+  const list = pointer(place.path);
+  if (wide.length > 1) tools.append(foldAllButton(list, place.label, names, contents.length, keyOf(place, "fold-all"), view));
+}
+
+/** An entry of a container: a handle to drag it, its content, and its tools. A content of many lines comes last, below the others, or is folded. */
+function drawEntry(type, value, within, view, { handle, front, tools, place, beside, indent = 0 }) {
   const isLine = isCompact(type, value);
-  const content = element("div", { class: "control" }, drawValue(type, value, within, view));
+  const name = pointer(within.path);
+  const isIn = !isLine && isFolded(pointer(place.path), name, beside, view);
+  const fold = isLine ? null : foldButton(name, isIn, within.label, titleOf(type, value), keyOf(within, "fold"), view);
+  const content = isIn ? null : element("div", { class: "control" }, drawValue(type, value, within, view));
   const all = tools && element("span", { class: "tools" }, ...tools);
-  const parts = isLine ? [handle, front, content, all] : [handle, front, all, content];
+  const parts = isLine ? [handle, front, content, all] : [handle, fold, front, all, content];
   const entry = element("li", { class: `entry ${sharing(type)} ${isLine ? "compact" : "wide"}`, "data-place": pointer(within.path) }, ...parts);
+  if (isIn) entry.classList.add("folded");
   if (indent) entry.dataset.depth = indent;
   return entry;
 }
@@ -58,23 +80,28 @@ function handleOf(view, words, place, start) {
 /** A list. Its items are moved by buttons, and by dragging their handles. */
 export function drawList(type, value, place, view, tools) {
   const count = value.length;
-  const { from, to, buttons } = pageOf(count, place, view);
-  const add = () => { turnTo(count, place, view); view.send(place, [{ ins: 1 }], { isFree: true, into: pointer([...place.path, count]) }); };
-  tools.append(element("span", { class: "count" }, counted(count, "item", "items")));
+  const shown = filtered(value, place, view, (it, text) => hasText(type.inner, it, text));
+  const { from, to, buttons } = pageOf(shown.length, place, view);
+  const add = () => { show(count, [count], place, view); view.send(place, [{ ins: 1 }], { isFree: true, into: pointer([...place.path, count]) }); };
+  headOf(shown.map((it) => ({ type: type.inner, value: value[it], path: [it] })), count, place, view, ["item", "items"], tools);
   if (view.canEdit) tools.append(addButton(`${place.label}: add an item`, keyOf(place, "add"), add));
-  const entries = value.slice(from, to).map((item, at) => drawItem(type.inner, item, from + at, count, place, view));
+  const entries = shown.slice(from, to).map((it) => drawItem(type.inner, value[it], it, { count, beside: shown.length }, place, view));
   const list = element("ol", { class: "entries", "data-list": pointer(place.path) }, ...entries);
   return element("div", { class: "list" }, tools.parentNode ? null : tools, list, buttons);
 }
 
-function drawItem(type, value, number, count, place, view) {
+function drawItem(type, value, number, { count, beside }, place, view) {
   const within = inside(place, ["mod", number], [number], `item ${number}`);
   const move = (to, role) => {
     turnTo(to, place, view);
+    carryFolds(view.folds, pointer(place.path), number, to);
     view.send(place, [{ move: [number, to] }], { key: keyOf({ path: [...place.path, to] }, role) });
   };
   const key = (role) => keyOf(within, role);
-  const remove = () => view.send(place, removeItem(number, count), { key: key("remove"), into: pointer(place.path) });
+  const remove = () => {
+    carryFolds(view.folds, pointer(place.path), number, count - 1);
+    view.send(place, removeItem(number, count), { key: key("remove"), into: pointer(place.path) });
+  };
   const tools = view.canEdit ? [
     signButton("↑", `${within.label}: move up`, key("up"), () => move(number - 1, "up"), number === 0),
     signButton("↓", `${within.label}: move down`, key("down"), () => move(number + 1, "down"), number === count - 1),
@@ -83,22 +110,24 @@ function drawItem(type, value, number, count, place, view) {
   const drop = (target) => view.send(place, [{ move: [number, target.number] }], { into: pointer([...place.path, target.number]) });
   const handle = handleOf(view, "Drag to move this item", place, { drop });
   const front = isCompact(type, value) ? null : element("span", { class: "count" }, `item ${number}`);
-  const entry = drawEntry(type, value, within, view, { handle, front, tools });
+  const entry = drawEntry(type, value, within, view, { handle, front, tools, place, beside });
   entry.dataset.number = number;
   return entry;
 }
 
 /** A keyed map. A key is changed where it stands, which renames it. */
 export function drawKeyed(type, value, place, view, tools) {
-  const { from, to, buttons } = pageOf(value.length, place, view);
-  tools.append(element("span", { class: "count" }, counted(value.length, "key", "keys")));
-  const entries = value.slice(from, to).map(([key, inner]) => drawKey(type.inner, key, inner, place, view));
+  const has = ([key, inner], text) => key.toLowerCase().includes(text) || hasText(type.inner, inner, text);
+  const shown = filtered(value, place, view, has).map((it) => value[it]);
+  const { from, to, buttons } = pageOf(shown.length, place, view);
+  headOf(shown.map(([key, it]) => ({ type: type.inner, value: it, path: [key] })), value.length, place, view, ["key", "keys"], tools);
+  const entries = shown.slice(from, to).map(([key, inner]) => drawKey(type.inner, key, inner, shown.length, place, view));
   const list = element("ol", { class: "entries keyed" }, ...entries);
   const added = view.canEdit ? drawNewKey(place, view) : null;
   return element("div", { class: "list" }, tools.parentNode ? null : tools, list, buttons, added);
 }
 
-function drawKey(type, key, value, place, view) {
+function drawKey(type, key, value, beside, place, view) {
   const within = inside(place, ["mod", key], [key], `key ${key}`);
   const rename = (to, base) => view.send(place, [{ rename: [key, to] }], { base, typed: to, key: keyOf({ path: [...place.path, to] }, "key") });
   const name = element("input", {
@@ -107,7 +136,7 @@ function drawKey(type, key, value, place, view) {
   });
   const remove = () => view.send(place, [{ drop: key }], { into: pointer(place.path) });
   const tools = view.canEdit ? [signButton("✕", `${within.label}: remove`, keyOf(within, "remove"), remove)] : null;
-  return drawEntry(type, value, within, view, { front: name, tools });
+  return drawEntry(type, value, within, view, { front: name, tools, place, beside });
 }
 
 function drawNewKey(place, view) {
@@ -115,7 +144,10 @@ function drawNewKey(place, view) {
   const name = element("input", {
     type: "text", "aria-label": label, placeholder: "a new key", "data-key": keyOf(place, "new-key"), autocomplete: "off", spellcheck: "false",
   });
-  const add = () => view.send(place, [{ put: name.value }], { typed: name.value, into: pointer([...place.path, name.value]) });
+  const add = () => {
+    show(null, [name.value], place, view);
+    view.send(place, [{ put: name.value }], { typed: name.value, into: pointer([...place.path, name.value]) });
+  };
   name.addEventListener("keydown", (event) => event.key === "Enter" && add());
   return element("div", { class: "new-key" }, name, addButton(`${place.label}: add the key`, keyOf(place, "add"), add));
 }
@@ -124,20 +156,47 @@ function drawNewKey(place, view) {
 export function drawTree(type, value, place, view, tools) {
   const nodes = nodesOf(value.map(([depth]) => depth));
   const byPath = new Map(nodes.map((it) => [it.path.join("."), it]));
-  const { from, to, buttons } = pageOf(nodes.length, place, view);
-  tools.append(element("span", { class: "count" }, counted(nodes.length, "node", "nodes")));
-  const entries = nodes.slice(from, to).map((node) => drawNode(type.inner, value[node.number][1], node, byPath, place, view));
+  const numbers = filtered(value, place, view, ([, inner], text) => hasText(type.inner, inner, text));
+  const shown = view.filter ? numbers.map((it) => nodes[it]) : unfolded(nodes, place, view);
+  const { from, to, buttons } = pageOf(shown.length, place, view);
+  const contents = shown.map((it) => ({ type: type.inner, value: value[it.number][1], path: ["items", it.number] }));
+  headOf(contents, nodes.length, place, view, ["node", "nodes"], tools);
+  const entries = shown.slice(from, to).map((it) => drawNode(type.inner, value[it.number][1], it, byPath, shown.length, place, view));
   const list = element("ol", { class: "entries tree", "data-list": pointer(place.path) }, ...entries);
   return element("div", { class: "list" }, tools.parentNode ? null : tools, list, buttons);
 }
 
-function drawNode(type, value, node, byPath, place, view) {
+const branchOf = (node, place) => `${pointer([...place.path, "items", node.number])}|branch`;
+
+/** The nodes that no folded node is above. */
+function unfolded(nodes, place, view) {
+  let above = Infinity;
+  return nodes.filter((it) => {
+    if (it.depth > above) return false;
+    above = it.children && view.folds.get(branchOf(it, place)) ? it.depth : Infinity;
+    return true;
+  });
+}
+
+function branchButton(node, within, place, view) {
+  if (!node.children || view.filter) return null;
+  const name = branchOf(node, place);
+  const isIn = view.folds.get(name) ?? false;
+  const press = () => { view.folds.set(name, !isIn); view.redraw(); };
+  const label = `${within.label}: the nodes below it`;
+  const button = signButton(isIn ? "▸" : "▾", label, keyOf(within, "branch"), press);
+  button.setAttribute("aria-expanded", String(!isIn));
+  return button;
+}
+
+function drawNode(type, value, node, byPath, beside, place, view) {
   const words = node.path.length ? `node ${node.path.join(".")}` : "the root";
   const within = inside(place, ["mod", node.path], ["items", node.number], words);
   const drop = (target) => view.hang(place, node.path, target.path);
   const handle = node.path.length ? handleOf(view, "Drag onto another node, to hang it below", place, { drop }) : null;
+  const front = branchButton(node, within, place, view);
   const tools = view.canEdit ? nodeTools(node, byPath, within, place, view) : null;
-  const entry = drawEntry(type, value, within, view, { handle, tools, indent: node.depth });
+  const entry = drawEntry(type, value, within, view, { handle, front, tools, place, beside, indent: node.depth });
   entry.dataset.node = JSON.stringify(node.path);
   return entry;
 }

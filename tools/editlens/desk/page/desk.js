@@ -4,14 +4,19 @@ import { call, follow, stateAt } from "./calls.js";
 import { drawDocument } from "./documents.js";
 import { startDrag } from "./dragging.js";
 import { byId, element } from "./elements.js";
+import { completed } from "./news.js";
 import { Steps, drawComplement, drawHistory, drawLast, drawNotices, refusalLines } from "./panels.js";
+import { pathOf, placeAt, typeAt } from "./places.js";
+import { plainly } from "./plain.js";
 import { ProgramEditor } from "./program.js";
 import { partners } from "./ties.js";
+import { Turns } from "./turns.js";
 import { Versions } from "./versions.js";
-import { Verbatim, editAt, pathWithout, pointer } from "./words.js";
+import { Verbatim, editAt, pathWithout, pointer, writeJson } from "./words.js";
 
 const SIDES = ["left", "right"];
 const OTHER = { left: "right", right: "left" };
+const CONTAINER = /"kind":"(list|keyed|tree)"/;
 const MARKS = { set: "changed", new: "new", moved: "moved" };
 
 /** One side of the page: it draws its document, and finds the places in it. */
@@ -20,6 +25,9 @@ class Side {
     this.side = name;
     this.desk = desk;
     this.pages = new Map();
+    this.folds = new Map();
+    this.drawn = new Map();
+    this.filter = "";
     this.refusal = null;
     this.root = byId(name).querySelector(".document");
     this.root.addEventListener("pointerover", (event) => desk.pointedAt(this, event.target));
@@ -28,10 +36,32 @@ class Side {
     const byHand = byId(name).querySelector(".by-hand");
     byHand.querySelector("button").addEventListener("click", () => desk.sendText(this, byHand.querySelector("textarea").value));
     byHand.hidden = true;
+    this.filterInput = byId(name).querySelector(".filter");
+    this.filterInput.addEventListener("input", () => this.filterBy(this.filterInput.value));
+  }
+
+  /** Shows what has a text inside alone. */
+  filterBy(text) {
+    this.filter = text.trim().toLowerCase();
+    this.pages.clear();
+    this.redraw();
+  }
+
+  endFilter() {
+    this.filterInput.value = this.filter = "";
   }
 
   get version() { return this.desk.state.version; }
   get canEdit() { return this.desk.state.mode !== "replay"; }
+  get otherSide() { return OTHER[this.side]; }
+
+  /** What belongs to a path in the other document: types and values. What needs a complement that is still to come is left out. */
+  tiedTo(path) {
+    const { lens, complement, version, sides } = this.desk.state;
+    const { type, document } = sides[this.otherSide];
+    const kept = complement?.version === version ? complement.tree : null;
+    return partners(lens, kept, this.side, path).map((it) => placeAt(type, document, pathOf(it))).filter(Boolean);
+  }
 
   /** Sends an edit of a place. */
   send(place, word, focus) {
@@ -56,6 +86,8 @@ class Side {
     this.isDrawing = true;
     this.root.replaceChildren(drawDocument(type, document, this));
     this.isDrawing = false;
+    this.drawn = new Map([...this.root.querySelectorAll("[data-place]")].map((it) => [it.dataset.place, it]));
+    this.filterInput.hidden = !CONTAINER.test(JSON.stringify(type));
     byId(this.side).querySelector(".by-hand").hidden = !this.canEdit;
     this.markChanges(changes);
     this.showRefusal();
@@ -66,16 +98,23 @@ class Side {
   at(place) {
     const names = place.split("/");
     while (names.length) {
-      const found = this.root.querySelector(`[data-place="${CSS.escape(names.join("/"))}"]`);
+      const found = this.drawn.get(names.join("/"));
       if (found) return found;
       names.pop();
     }
     return this.root;
   }
 
+  /** The element of a place, or the folded one around it. Null where neither is drawn. */
+  shown(place) {
+    const found = this.at(place);
+    return found.dataset.place === place || found.matches(".folded") ? found : null;
+  }
+
   markChanges(changes) {
     for (const [place, sort] of changes) {
-      const found = this.root.querySelector(`[data-place="${CSS.escape(place)}"]`);
+      const found = this.shown(place);
+      if (found?.matches(".folded") && found.querySelector(".mark")) continue;
       const mark = element("span", { class: "mark" }, MARKS[sort]);
       const head = found?.querySelector(":scope > .row-head");
       if (found?.matches(".row.compact")) found.append(mark);
@@ -129,7 +168,10 @@ class Side {
     if (active !== undefined && active !== from) return;
     const byKey = key && this.root.querySelector(`[data-key="${CSS.escape(key)}"]`);
     const around = into !== undefined ? this.at(into) : byKey?.closest(".entry");
-    const found = byKey && !byKey.disabled ? byKey : around?.querySelector("input, select, textarea, button:not(:disabled)");
+    const controls = "input, select, textarea, button:not(:disabled):not(.fold)";
+    const first = around?.querySelector(controls) ?? around?.querySelector(".fold");
+    const written = around?.matches(".entry") ? around.querySelector("input, select, textarea") : null;
+    const found = byKey && !byKey.disabled ? byKey : written ?? first;
     found?.focus();
     found?.scrollIntoView({ block: "nearest" });
   }
@@ -142,12 +184,13 @@ class Page {
     this.step = null;
     this.refusal = null;
     this.versions = new Versions();
-    this.turn = Promise.resolve();
+    this.turns = new Turns(() => this.showUndo());
     this.drawn = Promise.resolve();
     this.sides = Object.fromEntries(SIDES.map((it) => [it, new Side(it, this)]));
     this.steps = new Steps((step) => this.go(step));
     this.program = new ProgramEditor((text) => call("check", { program: text }), (text) => this.load(text));
-    byId("undo").addEventListener("click", () => this.ask("undo", {}));
+    for (const name of ["undo", "redo"]) byId(name).addEventListener("click", () => this.goBack(name));
+    document.addEventListener("keydown", (event) => this.pressed(event));
     byId("message-close").addEventListener("click", () => { byId("message").hidden = true; });
     document.addEventListener("keydown", (event) => event.key === "Escape" && this.dismiss());
     follow(() => this.refresh(), (isThere) => this.connected(isThere));
@@ -159,6 +202,29 @@ class Page {
     document.body.classList.toggle("lost", !isThere);
   }
 
+  /** Takes the last change back, or makes it again. */
+  goBack(name) {
+    return this.ask(name, {}, name === "undo" ? "Taking the last change back" : "Making the change again");
+  }
+
+  /** Control with Z takes back, and with Shift makes again, but not where a text is written: there it is of the text. */
+  pressed(event) {
+    const isWritten = event.target.closest("textarea, input:not([type=checkbox])");
+    if (isWritten || !(event.ctrlKey || event.metaKey) || event.key.toLowerCase() !== "z" || !this.state) return;
+    const name = event.shiftKey ? "redo" : "undo";
+    event.preventDefault();
+    if (!byId(name).hidden) this.goBack(name);
+  }
+
+  showUndo() {
+    const isBusy = this.turns.open.length > 0;
+    for (const name of ["undo", "redo"]) {
+      const has = this.state?.[name];
+      byId(name).hidden = !has?.can;
+      byId(name).setAttribute("aria-disabled", String(isBusy || has?.now === false));
+    }
+  }
+
   /** Draws what the server has, behind what is on its way: no answer is drawn over that of a later question. */
   refresh(focus = null) {
     this.drawn = this.drawn.then(() => this.refreshNow(focus)).catch(reportError);
@@ -166,9 +232,9 @@ class Page {
   }
 
   async refreshNow(focus) {
-    const state = await stateAt(this.step);
-    if (state.sides) this.draw(state, focus);
-    else this.say(state);
+    const said = await stateAt(this.step, this.state);
+    if (said.version === undefined || said.sentence) this.say(said);
+    else this.draw(completed(this.state, said), focus);
   }
 
   go(step) {
@@ -183,7 +249,7 @@ class Page {
     if (!isSame) this.versions.drawn(this.state, state);
     this.state = state;
     byId("title").textContent = state.title;
-    byId("undo").hidden = !state.undo.can;
+    this.showUndo();
     if (state.fault) this.say({ cause: "failed", sentence: state.fault });
     if (isNewer) this.forget();
     if (state.mode === "replay") this.showReplayRefusal();
@@ -234,12 +300,19 @@ class Page {
     return this.versions.rebased(base, this.state.version, side.side, place, isFree);
   }
 
-  /** Sends an edit of a side, behind those that are on their way. */
+  /** Is kept when all that was asked for has its answer. */
+  get turn() { return this.turns.last; }
+
+  /**
+   * Sends an edit of a side, behind those that are on their way. A second press of a control does nothing until the first has its answer,
+   * but what was typed is always sent, and so is an edit that is free: it holds for whatever the place has inside.
+   */
   send(side, edit, focus = {}) {
     const base = focus.base ?? this.state.version;
     const from = document.activeElement?.dataset.key;
-    this.turn = this.turn.then(() => this.sendNow(side, edit, base, { from, ...focus }));
-    return this.turn;
+    const isPress = !focus.isFree && focus.base === undefined && focus.place !== undefined;
+    const name = isPress ? `${side.side} ${focus.key ?? writeJson(edit)}` : null;
+    return this.turns.take("Sending the edit", name, () => this.sendNow(side, edit, base, { from, ...focus }));
   }
 
   /** Sends an edit. A refusal is shown at its place, and the document is drawn as it is. */
@@ -260,11 +333,20 @@ class Page {
       this.say({ ...said, typed: focus.typed });
       return;
     }
-    this.refusal = said;
-    side.refusal = { ...said, typed: focus.typed };
+    const refusal = this.inPlainWords(side, said, focus);
+    this.refusal = refusal;
+    side.refusal = { ...refusal, typed: focus.typed };
     side.redraw();
-    drawLast(this.state, said);
-    side.at(said.place ?? "").querySelector(".refused")?.scrollIntoView({ block: "nearest" });
+    drawLast(this.state, refusal);
+    side.at(refusal.place ?? "").querySelector(".refused")?.scrollIntoView({ block: "nearest" });
+  }
+
+  /** A refusal with its place and, where it was made by a control, with a sentence for a person. */
+  inPlainWords(side, said, { place, typed }) {
+    if (place === undefined) return said;
+    const here = said.place ?? place;
+    const plain = plainly(said.cause, typeAt(this.state.sides[side.side].type, pathOf(here)), typed);
+    return plain ? { ...said, place: here, plain } : said;
   }
 
   /** Sends an edit that was written by hand, as it is. */
@@ -278,7 +360,12 @@ class Page {
     await this.send(side, new Verbatim(text));
   }
 
-  async ask(name, body) {
+  /** Asks for something that is no edit, once until it has its answer. */
+  ask(name, body, words) {
+    return this.turns.take(words, name, () => this.askNow(name, body));
+  }
+
+  async askNow(name, body) {
     const said = await call(name, { base: new Verbatim(String(this.state.version)), ...body });
     if (said.ok) await this.refresh();
     else this.say(said);
@@ -286,8 +373,8 @@ class Page {
   }
 
   async load(text) {
-    const said = await this.ask("load", { program: text });
-    if (said.ok) this.program.show(text, true);
+    const said = await this.ask("load", { program: text }, "Loading the program");
+    if (said?.ok) this.program.show(text, true);
   }
 
   /** Marks a place, and what belongs to it on the other side. */
@@ -300,14 +387,9 @@ class Page {
     if (!place || !complement || complement.version !== version || place.dataset.place === "") return;
     const path = pathOf(place.dataset.place);
     const others = partners(this.state.lens, complement.tree, side.side, path);
-    const found = others.map((it) => this.sides[OTHER[side.side]].root.querySelector(`[data-place="${CSS.escape(it)}"]`)).filter(Boolean);
+    const found = others.map((it) => this.sides[side.otherSide].shown(it)).filter(Boolean);
     if (found.length) [place, ...found].forEach((it) => it.closest(".entry, .row")?.classList.add("tied"));
   }
-}
-
-/** The names and places of a JSON Pointer. */
-function pathOf(place) {
-  return place.split("/").slice(1).map((it) => it.replaceAll("~1", "/").replaceAll("~0", "~"));
 }
 
 window.page = new Page();

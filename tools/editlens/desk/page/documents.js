@@ -1,10 +1,12 @@
 // Draws a document by its type. What a person does becomes one edit, which goes to `view.send`.
 //
 // A place has `steps`, which lead an edit to it, `path`, its names in the JSON document, `label`, what it is called, and `isOwn`, whether
-// something around it is kept by this document alone.
+// something around it is kept by this document alone. `isInside` says whether it is in a list, a map or a tree.
 
 import { element, signButton } from "./elements.js";
 import { drawKeyed, drawList, drawTree } from "./containers.js";
+import { foldButton, isFolded } from "./folding.js";
+import { lossOf, lossQuestion } from "./losses.js";
 import { pointer, wholeOf } from "./words.js";
 
 const SIMPLE = ["unit", "bool", "int", "text", "enum"];
@@ -19,7 +21,8 @@ export function drawDocument(type, value, view) {
 
 /** The place inside another one: a field, the content of a tag, an item, a key or a node. */
 export function inside(place, step, path, label) {
-  return { steps: [...place.steps, step], path: [...place.path, ...path], label: `${place.label} ${label}`, isOwn: place.isOwn };
+  const isInside = place.isInside || step[0] === "mod";
+  return { steps: [...place.steps, step], path: [...place.path, ...path], label: `${place.label} ${label}`, isOwn: place.isOwn, isInside };
 }
 
 /** The key of a control, by which the focus finds it again. */
@@ -44,6 +47,9 @@ export function sharing(type) {
   return type.kind === "record" ? "frame" : "shared";
 }
 
+/** The numbers of the fields of a record in the order of the program. */
+export const orderOf = (type) => type.order ?? [...type.fields.keys()];
+
 /** A value with its name in front of it. */
 export function drawRow(name, type, value, place, view) {
   const sort = sharing(type);
@@ -58,7 +64,11 @@ export function drawRow(name, type, value, place, view) {
     const tools = element("span", { class: "row-tools" });
     row.setAttribute("role", "group");
     row.setAttribute("aria-label", place.label);
-    row.append(element("div", { class: "row-head" }, heading, note, tools), drawValue(type, value, within, view, tools));
+    const isIn = isFolded("", pointer(place.path), 0, view);
+    const fold = foldButton(pointer(place.path), isIn, place.label, name, keyOf(place, "fold"), view);
+    row.append(element("div", { class: "row-head" }, fold, note, tools));
+    if (isIn) row.classList.add("folded");
+    else row.append(drawValue(type, value, within, view, tools));
   }
   return row;
 }
@@ -69,7 +79,10 @@ export function drawValue(type, value, place, view, tools = element("span")) {
 }
 
 function drawRecord(type, value, place, view) {
-  const rows = type.fields.map(([name, inner], at) => drawRow(name, inner, value[at], inside(place, ["at", name], [name], name), view));
+  const rows = orderOf(type).map((at) => {
+    const [name, inner] = type.fields[at];
+    return drawRow(name, inner, value[at], inside(place, ["at", name], [name], name), view);
+  });
   return element("div", { class: "record" }, ...(rows.length ? rows : [element("span", { class: "nothing" }, "no fields")]));
 }
 
@@ -81,13 +94,33 @@ function drawAlternatives(type, value, place, view, tools) {
     "aria-label": `${place.label}: which kind`,
     "data-key": keyOf(place, "tag"),
     disabled: !view.canEdit,
-    onchange: (event) => view.send(place, [{ switch: [value[0], event.target.value, []] }], { key: keyOf(place, "tag") }),
+    onchange: (event) => changeKind(event.target, inner, value, place, view),
   }, ...options);
   menu.value = value[0];
   const within = inside(place, ["stay", value[0]], [value[0]], value[0]);
   const content = drawValue(inner, value[1], within, view, tools);
   const box = element("div", { class: `content ${sharing(inner)}`, "data-place": pointer(within.path) }, content);
   return element("div", { class: isCompact(inner, value[1]) ? "alternatives compact" : "alternatives" }, menu, box);
+}
+
+/** Changes the kind of alternatives. Where something goes with the present kind, it is asked for first, and the menu shows the present one. */
+function changeKind(menu, inner, [tag, content], place, view) {
+  const to = menu.value;
+  const key = keyOf(place, "tag");
+  const change = () => view.send(place, [{ switch: [tag, to, []] }], { key });
+  const others = view.tiedTo([...place.path, tag]);
+  const loss = lossOf(tag, inner, content, others, view.otherSide);
+  const box = menu.closest(".alternatives");
+  box.querySelector(":scope > .warning")?.remove();
+  if (!loss) {
+    change();
+    return;
+  }
+  menu.value = tag;
+  const keep = () => { question.remove(); menu.focus(); };
+  const question = lossQuestion(loss, tag, to, key, change, keep);
+  box.append(question);
+  question.querySelector("button").focus();
 }
 
 /**

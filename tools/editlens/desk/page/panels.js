@@ -20,6 +20,7 @@ function translated(entry) {
 
 function entryLines(entry) {
   const said = element("p", { class: "said" }, entry.sentences.join("; ") || "nothing changed");
+  if (entry.taken) return [element("p", { class: "said" }, `Taken back: ${entry.sentences.join("; ")}`)];
   const words = entry.undo
     ? [wordLine("left document", entry.edit), wordLine("right document", entry.word)]
     : [wordLine(`sent to the ${entry.side} document`, entry.edit), translated(entry)];
@@ -31,10 +32,13 @@ export function refusalLines(said) {
   const place = said.place === null || said.place === undefined ? "" : ` at ${said.place || "the document"}`;
   const head = said.cause === "stale" ? "not sent, since it is stale" : `refused: ${said.cause}${place}`;
   const title = said.cause === "failed" || !said.cause ? "not done" : head;
-  const lines = [element("strong", {}, title), element("span", {}, said.sentence.replace(/\.?$/, "."))];
-  if (said.allowed) lines.push(element("span", {}, "Allowed here: ", element("code", {}, said.allowed)));
+  const sentence = said.sentence.replace(/\.?$/, ".");
+  const lines = said.plain
+    ? [element("strong", {}, said.plain), element("small", { title: sentence }, head)]
+    : [element("strong", {}, title), element("span", {}, sentence)];
+  if (said.allowed && !said.plain) lines.push(element("span", {}, "Allowed here: ", element("code", {}, said.allowed)));
   if (said.since) lines.push(element("span", {}, "Since then: "), element("ul", {}, ...said.since.map((it) => element("li", {}, it))));
-  if (said.typed) lines.push(element("span", {}, "Your text was: ", element("code", {}, said.typed)));
+  if (said.typed && !said.plain) lines.push(element("span", {}, "Your text was: ", element("code", {}, said.typed)));
   return lines;
 }
 
@@ -64,7 +68,8 @@ export function drawComplement(state) {
 /** The history, the newest change first. */
 export function drawHistory(state) {
   byId("history").hidden = state.mode === "replay";
-  const said = (it) => (it.undo ? "the last change taken back" : it.sentences.join("; "));
+  const back = (it) => (it.taken ? `taken back: ${it.sentences.join("; ")}` : "the last change taken back");
+  const said = (it) => (it.undo ? back(it) : it.sentences.join("; "));
   const way = (it) => (it.undo ? null : element("span", { class: "way" }, ` ${it.side} → ${OTHER[it.side]}`));
   const items = [...state.history].reverse().map((it) =>
     element("li", { value: it.version }, element("span", { class: "said" }, said(it)), way(it)));

@@ -6,6 +6,8 @@ const TOKEN = /(#[^\n]*)|("[^"\\\n]*")|(-?[0-9]+)|([A-Za-z_][A-Za-z0-9_]*)|([=;{
 const TYPE_WORDS = new Set("unit bool int text enum list tree".split(" "));
 const WORDS = new Set("type lens main keyed id bij disc then left right each part inv".split(" "));
 const PAUSE = 250;
+const WIDE = 40;
+const BEFORE = 16;
 
 function sortOf([, comment, string, number, word, mark]) {
   if (comment) return "comment";
@@ -70,7 +72,7 @@ export class ProgramEditor {
     const said = await this.ask(text);
     if (number !== this.asked || text !== this.area.value || !said) return;
     this.colour(said.accepted || said.from === null ? null : said);
-    byId("program-said").replaceChildren(...(said.accepted ? accepted(said) : [element("pre", { class: "refused-program" }, said.lines.join("\n"))]));
+    byId("program-said").replaceChildren(...(said.accepted ? accepted(said) : refusedLines(said.lines)));
     byId("load").disabled = !said.accepted || text === this.loaded;
     byId("reset").disabled = text === this.loaded;
     this.area.setAttribute("aria-invalid", String(!said.accepted));
@@ -87,6 +89,18 @@ export class ProgramEditor {
     byId("program-colours").scrollTop = this.area.scrollTop;
     byId("program-colours").scrollLeft = this.area.scrollLeft;
   }
+}
+
+/** Why a program is refused. The line with the caret and the one above it keep their columns: they are cut around the caret, and never wrapped. */
+function refusedLines(lines) {
+  const wrapped = (some) => (some.length ? [element("pre", {}, some.join("\n"))] : []);
+  const at = lines.findIndex((it) => /^\s*\^+$/.test(it));
+  if (at < 1) return wrapped(lines);
+  const [text, carets] = [[...lines[at - 1]], [...lines[at]]];
+  const from = text.length <= WIDE ? 2 : Math.max(2, Math.min(carets.indexOf("^") - BEFORE, text.length - WIDE));
+  const cut = (line, mark) => `${from > 2 ? mark : ""}${line.slice(from, from + WIDE).join("")}`;
+  const excerpt = element("pre", { class: "excerpt" }, `${cut(text, ".. ")}\n${cut(carets, "   ")}`);
+  return [...wrapped(lines.slice(0, at - 1)), excerpt, ...wrapped(lines.slice(at + 1))];
 }
 
 function accepted(said) {
