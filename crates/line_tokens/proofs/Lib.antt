@@ -1,0 +1,6 @@
+pub mod Conversion
+pub mod Values
+pub mod Numerals
+pub mod Contents
+pub mod Words
+pub mod Entries

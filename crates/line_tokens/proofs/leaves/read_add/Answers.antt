@@ -1,0 +1,4 @@
+use Rattle.line_tokens.proofs.leaves.read_add.Goals as goal
+
+pub returns-guess : goal.returns-guess
+returns-guess c = ?
