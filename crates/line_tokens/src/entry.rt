@@ -16,7 +16,11 @@ use std::alloc::Global;
 
 // An entry, whose arrays and objects nest no deeper than the room: an object with the members `edit` and
 // `side`, each once, in either order.
-pub(crate) fn read_tokens(alloc: Global, reader: &mut Reader<'_>, room: usize) -> Result<Entry, Miss>
+pub(crate) fn read_tokens(
+    alloc: Global,
+    reader: &mut Reader<'_>,
+    room: usize,
+) -> Result<Entry, Miss>
     requires { 1 < room }
 
     ensures { IfOk result (λ e. IsEntry room reader.old (entry_tree e) reader.new) }

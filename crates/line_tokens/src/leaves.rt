@@ -16,7 +16,11 @@ use std::alloc::Global;
 
 // Each function here reads the content of the member that its own name says.
 
-pub(crate) fn read_set(alloc: Global, reader: &mut Reader<'_>, room: usize) -> Result<Primitive, Miss>
+pub(crate) fn read_set(
+    alloc: Global,
+    reader: &mut Reader<'_>,
+    room: usize,
+) -> Result<Primitive, Miss>
     ensures { IfOk result (λ p. IsContent room reader.old kinds.Set (primitive_tree p) reader.new) }
 {
     let atom = atom(alloc, reader)?;
@@ -103,14 +107,22 @@ pub(crate) fn read_move(reader: &mut Reader<'_>, room: usize) -> Result<Primitiv
     Ok(Primitive::Shape(ShapeEdit::MoveItem(from, to)))
 }
 
-pub(crate) fn read_put(alloc: Global, reader: &mut Reader<'_>, room: usize) -> Result<Primitive, Miss>
+pub(crate) fn read_put(
+    alloc: Global,
+    reader: &mut Reader<'_>,
+    room: usize,
+) -> Result<Primitive, Miss>
     ensures { IfOk result (λ p. IsContent room reader.old kinds.Put (primitive_tree p) reader.new) }
 {
     let key = name(alloc, reader)?;
     Ok(Primitive::Shape(ShapeEdit::PutKey(key)))
 }
 
-pub(crate) fn read_drop(alloc: Global, reader: &mut Reader<'_>, room: usize) -> Result<Primitive, Miss>
+pub(crate) fn read_drop(
+    alloc: Global,
+    reader: &mut Reader<'_>,
+    room: usize,
+) -> Result<Primitive, Miss>
     ensures { IfOk result (λ p. IsContent room reader.old kinds.Drop (primitive_tree p) reader.new) }
 {
     let key = name(alloc, reader)?;

@@ -38,11 +38,7 @@ pub fn read_entry(alloc: Global, line: &Line) -> Result<Change, EntryFault>
 }
 
 /// The same, with the scratch that the caller keeps from line to line.
-pub fn read_change(
-    alloc: Global,
-    scratch: &mut Scratch,
-    line: &Line,
-) -> Result<Change, EntryFault>
+pub fn read_change(alloc: Global, scratch: &mut Scratch, line: &Line) -> Result<Change, EntryFault>
     ensures change { Gives change_tree result (change_of_line line.now) }
     ensures fits { IfOk result (λ change. change_counts_fit (change_tree change) ≡ true) }
     ensures tree { IfOk result
@@ -55,11 +51,7 @@ pub fn read_change(
 }
 
 // The entry of the tokens, and otherwise what `edit_journal` reads.
-fn read_either(
-    alloc: Global,
-    scratch: &mut Scratch,
-    line: &Line,
-) -> Result<Change, EntryFault>
+fn read_either(alloc: Global, scratch: &mut Scratch, line: &Line) -> Result<Change, EntryFault>
     ensures { Gives change_tree result (change_of_line line.now) }
 {
     match entry_of_line(alloc, scratch, line)? {

@@ -8,4 +8,4 @@ pub returns : goal.returns
 returns c =
     let ts = c.args.reader.now in
     let rest = c.end_array.new.reader in
-    subst (λ p. IsContent c.args.room ts Move p rest) (sym (shape_is _)) (move_content c.args.room ts c.begin_array.new.reader c.count-from.new.reader c.count-to.new.reader rest _ _ c.requires c.in_ok-begin_array.ensures c.in_ok-from.ensures c.in_ok-to.ensures c.in_ok-end_array.ensures)
+    subst (λ p. IsContent c.args.room ts Move p rest) (sym (shape_is _)) (move_content c.args.room ts c.begin_array.new.reader c.count.new.reader c.count-2.new.reader rest _ _ c.requires c.in_ok-begin_array.ensures c.in_ok-from.ensures c.in_ok-to.ensures c.in_ok-end_array.ensures)

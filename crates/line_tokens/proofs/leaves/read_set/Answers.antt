@@ -7,5 +7,5 @@ use Rattle.line_tokens.proofs.leaves.read_set.Goals as goal
 pub returns : goal.returns
 returns c =
     let ts = c.args.reader.now in
-    let rest = c.atom-atom.new.reader in
+    let rest = c.atom.new.reader in
     subst (λ p. IsContent c.args.room ts Set p rest) (sym (set_is c.in_ok-atom.atom)) (set_content c.args.room ts rest c.in_ok-atom.atom c.in_ok-atom.ensures)

@@ -8,4 +8,4 @@ pub returns : goal.returns
 returns c =
     let ts = c.args.reader.now in
     let rest = c.end_array.new.reader in
-    subst (λ p. IsContent c.args.room ts Splice p rest) (sym (splice_is c.in_ok-from.from c.in_ok-removed.removed c.in_ok-letters.letters)) (splice_content c.args.room ts c.begin_array.new.reader c.count-from.new.reader c.count-removed.new.reader c.letters-letters.new.reader rest _ _ _ c.requires c.in_ok-begin_array.ensures c.in_ok-from.ensures c.in_ok-removed.ensures c.in_ok-letters.ensures c.in_ok-end_array.ensures)
+    subst (λ p. IsContent c.args.room ts Splice p rest) (sym (splice_is c.in_ok-from.from c.in_ok-removed.removed c.in_ok-letters.letters)) (splice_content c.args.room ts c.begin_array.new.reader c.count.new.reader c.count-2.new.reader c.letters.new.reader rest _ _ _ c.requires c.in_ok-begin_array.ensures c.in_ok-from.ensures c.in_ok-removed.ensures c.in_ok-letters.ensures c.in_ok-end_array.ensures)
