@@ -40,7 +40,7 @@ def table_of(top=TOP):
     sums = [(group, [sum(many[it] for it in names) for many in (gate, plants)]) for group, names in inside.items()]
     rows = "".join(f"| {group} | {many[0]} | {many[1]} |\n" for group, many in sums if any(many))
     head = f"There are {sum(gate.values())} that the gate tries, and {sum(plants.values())} in `plants/`:"
-    return f"{head}\n\n| Crates | Tried by the gate | Tried by `dev/plant` |\n|---|---|---|\n{rows}"
+    return f"{head}\n\n| Crates | Tried by the gate | Planted in `plants/` |\n|---|---|---|\n{rows}"
 
 
 def page_with_table(top=TOP):

@@ -1,4 +1,8 @@
-"""What each command promises, read from the records in the specs of the top calls: a row for each field, in the words of its comment."""
+"""What each command promises, read from the records in the specs of the top calls: a row for each field, in the words of its comment.
+
+A row has the field of editlens and that of edithub, side by side. Where edithub has the same words, with the hub in place of the state, they
+are written once. Words that an earlier command has for the same field are not written again.
+"""
 
 import os
 import re
@@ -25,8 +29,8 @@ EDITHUB = [
     ("`undo`", "HubUndoes", ["TakesHubBack", "HubUndoes"]),
     ("`add`", "HubAdds", ["AddsOn", "HubAdds"]),
 ]
-# For each top call: the head of its table, the crate, and its commands with their records.
-TABLES = [("Command", "editlens_main", EDITLENS), ("Command of `edithub`", "edithub_main", EDITHUB)]
+HEAD = "| Command | `editlens` | `edithub` | In words |"
+TABLE = re.compile(re.escape(HEAD) + r"\n\|[-|]+\|\n(?:\|.*\|\n)+")
 FIELD = re.compile(r"\s+pub (\w+) :")
 
 
@@ -50,27 +54,47 @@ def fields_of(path, record, top=TOP):
     return fields
 
 
-def table_of(head, crate, commands, top=TOP):
-    rows = [f"| {head} | Promise | In words |", "|---|---|---|"]
+def promised(crate, commands, top=TOP):
+    """The promises of the commands of a top call: of each command a link and words, by the name of the field."""
+    found = {}
     for command, file, records in commands:
         path = os.path.join("crates", crate, "specs", file + ".antt")
-        for record in records:
-            for name, line, words in fields_of(path, record, top):
-                said = words[0].upper() + words[1:]
-                rows.append(f"| {command} | [`{name}`](../{path}#L{line}) | {said.rstrip('.')}. |")
-                command = ""
-    return "\n".join(rows) + "\n"
+        fields = [field for record in records for field in fields_of(path, record, top)]
+        found[command] = {name: (f"[`{name}`](../{path}#L{line})", words.rstrip(".")) for name, line, words in fields}
+    return found
 
 
-def tables(top=TOP):
-    """The table of each top call."""
-    return [table_of(*table, top) for table in TABLES]
+def of_state(words):
+    """Words with the state in place of the hub and of the triple, to compare them."""
+    return re.sub(r"\b(?:hub|triple)\b", "state", words.replace(" of a hub", "")).lower()
 
 
-def page_with_tables(top=TOP):
+def sentence(words, seen, name, command):
+    """The words as a sentence, or where they were written before."""
+    earlier = seen.setdefault((name, of_state(words)), command)
+    return f"As of {earlier}." if earlier != command else words[0].upper() + words[1:] + "."
+
+
+def rows_of(command, pair, hub, seen):
+    """The rows of a command: a row for each field that either program has."""
+    first = command
+    for name in [*pair, *(it for it in hub if it not in pair)]:
+        (link, words), (hub_link, hub_words) = pair.get(name, ("", "")), hub.get(name, ("", ""))
+        said = [sentence(words, seen, name, command)] if words else []
+        if hub_words and of_state(hub_words) != of_state(words):
+            own = sentence(hub_words, seen, name, command)
+            said += [] if own in said else [f"Of `edithub`: {own[0].lower()}{own[1:]}" if words else own]
+        yield f"| {first} | {link} | {hub_link} | {' '.join(said)} |"
+        first = ""
+
+
+def table_of(top=TOP):
+    """The table of what the commands of both programs promise."""
+    pair, hub, seen = promised("editlens_main", EDITLENS, top), promised("edithub_main", EDITHUB, top), {}
+    rows = [row for command in {**pair, **hub} for row in rows_of(command, pair.get(command, {}), hub.get(command, {}), seen)]
+    return "\n".join([HEAD, "|---|---|---|---|", *rows]) + "\n"
+
+
+def page_with_table(top=TOP):
     """The page as it should be."""
-    page = read_page(PAGE, top)
-    for (head, _, _), table in zip(TABLES, tables(top)):
-        begins = re.escape(f"| {head} | Promise | In words |")
-        page = re.sub(begins + r"\n\|[-|]+\|\n(?:\|.*\|\n)+", lambda _, table=table: table, page)
-    return page
+    return TABLE.sub(lambda _: table_of(top), read_page(PAGE, top))

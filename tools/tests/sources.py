@@ -163,7 +163,7 @@ def test_the_edits_are_counted():
 
 def test_the_promises_are_those_of_the_records():
     page = read(promises.PAGE)
-    assert all(table in page for table in promises.tables()), "docs/TRUST.md has other promises: run dev/promises --write"
+    assert promises.table_of() in page and page == promises.page_with_table(), "docs/TRUST.md has other promises: run dev/promises --write"
 
 
 def test_edits_are_counted_in_both_folders():
