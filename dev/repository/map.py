@@ -9,6 +9,11 @@ PAGE = os.path.join("docs", "ARCHITECTURE.md")
 BEGIN, END = "<!-- Written by dev/map from crates.txt and the heads of the crates. -->", "<!-- The end of what dev/map writes. -->"
 WIDTH = 100
 LAWS = "Laws"
+ELSEWHERE = {
+    LAWS: "What each law says is in [TRUST.md](TRUST.md#laws-and-library-calls).",
+    "Tests": "Programs that read cases are in [CASES.md](../reference/CASES.md), and the other kinds in [CONTRIBUTING.md](CONTRIBUTING.md#tests).",
+}
+"""Groups of which another page says what their crates are, with the sentence that leads there."""
 
 
 class NoPlace(Exception):
@@ -45,12 +50,15 @@ def picture(crates):
 
 
 def tables(crates, top=TOP):
-    """A table for each group: its crates with what they are, the lowest first."""
+    """A table for each group: its crates with what they are, the lowest first. Or a sentence, where another page has that."""
     for group, inside in groups(crates).items():
         yield from ("", f"### {group_name(group)}", "")
         rest = group.removeprefix(group_name(group)).lstrip(":., ")
         if rest:
             yield from (rest[0].upper() + rest[1:], "")
+        if group_name(group) in ELSEWHERE:
+            yield ELSEWHERE[group_name(group)]
+            continue
         yield from ("| Crate | What it is |", "|---|---|")
         for crate in inside:
             yield f"| [`{crate}`](../crates/{crate}) | {head_of(crate, top)} |"
