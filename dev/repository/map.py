@@ -49,6 +49,12 @@ def picture(crates):
     return lines[1:]
 
 
+def title_of(head):
+    """The head of a crate up to its colon, where more than two words stand before it: what follows explains them."""
+    before, _, _ = head.partition(": ")
+    return before if len(before.split()) > 2 else head
+
+
 def tables(crates, top=TOP):
     """A table for each group: its crates with what they are, the lowest first. Or a sentence, where another page has that."""
     for group, inside in groups(crates).items():
@@ -61,7 +67,7 @@ def tables(crates, top=TOP):
             continue
         yield from ("| Crate | What it is |", "|---|---|")
         for crate in inside:
-            yield f"| [`{crate}`](../crates/{crate}) | {head_of(crate, top)} |"
+            yield f"| [`{crate}`](../crates/{crate}) | {title_of(head_of(crate, top))} |"
 
 
 def the_map(crates, top=TOP):
