@@ -55,8 +55,8 @@ def title_of(head):
     return before if len(before.split()) > 2 else head
 
 
-def tables(crates, top=TOP):
-    """A table for each group: its crates with what they are, the lowest first. Or a sentence, where another page has that."""
+def lists(crates, top=TOP):
+    """A list for each group: its crates with what they are, the lowest first. Or a sentence, where another page has that."""
     for group, inside in groups(crates).items():
         yield from ("", f"### {group_name(group)}", "")
         rest = group.removeprefix(group_name(group)).lstrip(":., ")
@@ -65,14 +65,13 @@ def tables(crates, top=TOP):
         if group_name(group) in ELSEWHERE:
             yield ELSEWHERE[group_name(group)]
             continue
-        yield from ("| Crate | What it is |", "|---|---|")
         for crate in inside:
-            yield f"| [`{crate}`](../crates/{crate}) | {title_of(head_of(crate, top))} |"
+            yield f"- [`{crate}`](../crates/{crate}): {title_of(head_of(crate, top))}"
 
 
 def the_map(crates, top=TOP):
     """The map in Markdown."""
-    return "\n".join(["```", *picture(crates), "```", *tables(crates, top)]) + "\n"
+    return "\n".join(["```", *picture(crates), "```", *lists(crates, top)]) + "\n"
 
 
 def above_its_group(crates):

@@ -15,7 +15,7 @@ from repository.contracts import enums, libraries, public_calls  # noqa: E402
 from repository.crates import direct, head_of, levels, read_crates  # noqa: E402
 from repository.edits import by_crate, page_with_table, table_of  # noqa: E402
 from repository.lemmas import renamed  # noqa: E402
-from repository.map import ELSEWHERE, above_its_group, page_with_map, picture, tables  # noqa: E402
+from repository.map import ELSEWHERE, above_its_group, lists, page_with_map, picture  # noqa: E402
 from repository.map import faults_of as faults_of_map  # noqa: E402
 from repository.refusals import Line, Refusals, faults_of, lacking, read_table, report, rows_of, said, unshown  # noqa: E402
 
@@ -204,7 +204,7 @@ def test_the_map_of_a_small_repository():
         small_crate(folder)
         crates = read_crates(folder)
         assert picture(crates) == ["Tests", "   2  low_tests", "", "Base", "   1  low"], picture(crates)
-        rows = list(tables(crates, folder))
+        rows = list(lists(crates, folder))
         assert "One crate." in rows and rows[-1] == ELSEWHERE["Tests"], rows
         wrong = list(faults_of_map(crates, folder))
         assert wrong == ["crates/low_tests is not there", "the head of crates/low does not say what it is"], wrong
