@@ -64,9 +64,15 @@ def promised(crate, commands, top=TOP):
     return found
 
 
+SAME = [(" of a hub", ""), ("the programs alone", "the program alone"), ("They represent", "That represents"), ("their lenses", "the lens")]
+"""Words of edithub, with those of editlens that say the same."""
+
+
 def of_state(words):
-    """Words with the state in place of the hub and of the triple, to compare them."""
-    return re.sub(r"\b(?:hub|triple)\b", "state", words.replace(" of a hub", "")).lower()
+    """Words with the state in place of the hub and of the triple, and one lens in place of many, to compare them."""
+    for hub, pair in SAME:
+        words = words.replace(hub, pair)
+    return re.sub(r"\b(?:hub|triple)\b", "state", words).lower()
 
 
 def sentence(words, seen, name, command):
