@@ -1,4 +1,4 @@
-"""The links that docs/check follows: to pages and their headings, and to lines of sources."""
+"""What docs/check looks at: links to pages and their headings and to lines of sources, and examples that want another program."""
 
 import os
 import sys
@@ -88,3 +88,19 @@ def test_every_clause_of_the_top_call_may_be_linked():
         lines = file.read().splitlines()
     clauses = [it for it in lines if it.startswith("    ensures ")]
     assert clauses and all(docs.BEGINS[".rt"].match(it) for it in clauses)
+
+
+def test_an_example_that_wants_another_program_is_skipped_without_it():
+    docs = checker()
+    with open(os.path.join(TOP, "dev/setup"), encoding="utf-8") as file:
+        listed = {line.split()[0] for line in file.read().split("<<'END'\n")[1].split("\nEND")[0].splitlines()}
+    assert {package for _, package, _ in docs.OTHERS} <= listed, docs.OTHERS
+    docs.OTHERS = [("augtool ", "augeas-tools", "/nowhere/augtool"), ("jq ", "jq", os.devnull)]
+    with tempfile.TemporaryDirectory() as folder:
+        page = os.path.join(folder, "page.md")
+        with open(page, "w", encoding="utf-8") as file:
+            file.write("```\n$ augtool ls /\n$ edithub show\n$ echo jq here\njq here\n$ echo other\nthis\n```\n")
+        count, differ, said = docs.check(page, sys.executable, None)
+    assert (count, differ, len(said)) == (2, 1, 3), said
+    assert said[0].endswith("page.md:2, augeas-tools is not installed") and said[1].endswith("page.md:3, there is no program edithub"), said
+    assert "wanted:\nthis\ncame:\nother\n" in said[2], said
