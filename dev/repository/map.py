@@ -1,17 +1,17 @@
-"""The map of the crates: a picture with every crate on its level, and a line for each that says what it is. docs/ARCHITECTURE.md has it."""
+"""The map of the crates: a picture with every crate on its level, and a line for each that says what it is. dev/MAP.md has it."""
 
 import os
 
 from . import TOP, read_lines
 from .crates import group_name, head_of, levels, reached, read_crates
 
-PAGE = os.path.join("docs", "ARCHITECTURE.md")
+PAGE = os.path.join("dev", "MAP.md")
 BEGIN, END = "<!-- Written by dev/map from crates.txt and the heads of the crates. -->", "<!-- The end of what dev/map writes. -->"
 WIDTH = 100
 LAWS = "Laws"
 ELSEWHERE = {
-    LAWS: "What each law says is in [TRUST.md](TRUST.md#laws-and-library-calls).",
-    "Tests": "Programs that read cases are in [CASES.md](../reference/CASES.md), and the other kinds in [CONTRIBUTING.md](CONTRIBUTING.md#tests).",
+    LAWS: "What each law says is in [TRUST.md](../docs/TRUST.md#laws-and-library-calls).",
+    "Tests": "Programs that read cases are in [CASES.md](../reference/CASES.md), and the other kinds in [CONTRIBUTING.md](../docs/CONTRIBUTING.md#tests).",
 }
 """Groups of which another page says what their crates are, with the sentence that leads there."""
 
@@ -58,7 +58,7 @@ def title_of(head):
 def lists(crates, top=TOP):
     """A list for each group: its crates with what they are, the lowest first. Or a sentence, where another page has that."""
     for group, inside in groups(crates).items():
-        yield from ("", f"### {group_name(group)}", "")
+        yield from ("", f"## {group_name(group)}", "")
         rest = group.removeprefix(group_name(group)).lstrip(":., ")
         if rest:
             yield from (rest[0].upper() + rest[1:], "")
@@ -99,7 +99,7 @@ def page_with_map(top=TOP):
     before, begin, rest = page.partition(BEGIN)
     _, end, after = rest.partition(END)
     if not begin or not end:
-        raise NoPlace("docs/ARCHITECTURE.md has not the two lines between which dev/map writes")
+        raise NoPlace("dev/MAP.md has not the two lines between which dev/map writes")
     return f"{before}{BEGIN}\n\n{the_map(read_crates(top), top)}\n{END}{after}"
 
 
