@@ -9,7 +9,7 @@ use Rattle.store_run.specs.ApplyCall.{IsUnopened}
 use Rattle.store_run.specs.Rooms.{TakesTooMany, most_bytes}
 use Rattle.hub_add.specs.AddCall.{AddEnds, AddsView, EndsWhole, IsAddCause, IsSafeAdd, RefusesViewAtOnce}
 use Rattle.hub_add.specs.AddCall.{ViewHasNoRoom}
-use Rattle.edithub_main.specs.HubStores.{HubStore, RefusedHub, IsStateInStep, RefusesHub}
+use Rattle.edithub_main.specs.HubStores.{HubStore, RefusedHub, IsHubStateInStep, RefusesHub}
 use Rattle.command_ends.specs.declared.status.Status.{Status}
 use Rattle.command_ends.specs.declared.status.Status.TheVariants.{Done, DiskFault}
 
@@ -20,7 +20,7 @@ module _ {S K D : Type 0} (source : OfSource.Ghosts S) (sink : OfSink.Ghosts K) 
     -- at its end the store represents the hub with one view more, which is in step, and its state lines were written
     pub continues : status ≡ Done → AddsView source sink disk (old.0, old.1) new store.payloads store.state
     -- each view is in its lens's consistency relation with the hub
-    pub in_step : IsStateInStep store.state
+    pub in_step : IsHubStateInStep store.state
     -- what was taken, written and stored at every status
     pub stops : AddEnds source sink disk old new store.payloads store.state status
     -- A program part that is whole and refused is refused, whatever comes after it, unless the sink failed or memory

@@ -10,7 +10,7 @@ use Rattle.store_run.specs.ApplyCall.{ContinuesCall, IsUnopened, IsSafeCall, End
 use Rattle.store_run.specs.InTime.{AnswersInTime}
 use Rattle.store_run.specs.Rooms.{most_bytes, TakesTooMany, RunHasNoRoom, IsApplyCause}
 use Rattle.hub_session.specs.contracts.instance.HubSessionStoredSession.TheImpl.{ghosts as hubs}
-use Rattle.edithub_main.specs.HubStores.{HubStore, RefusedHub, StaysInStep, RefusesHub}
+use Rattle.edithub_main.specs.HubStores.{HubStore, RefusedHub, HubStaysInStep, RefusesHub}
 use Rattle.command_ends.specs.declared.status.Status.{Status}
 use Rattle.command_ends.specs.declared.status.Status.TheVariants.{DiskFault, NoMemory}
 
@@ -28,7 +28,7 @@ module _ {S K D : Type 0} (source : OfSource.Ghosts S) (sink : OfSink.Ghosts K) 
     pub continues : IsFinished status
         → ContinuesCall source sink disk hubs (old.0, old.1) new store.payloads store.state store.version status
     -- each view is in its lens's consistency relation with the hub, and so it is in every state of the run
-    pub in_step : StaysInStep store.state
+    pub in_step : HubStaysInStep store.state
     -- At every status: every line that had ended when the source was called last was answered, and its answer written,
     -- or the source was not called. After SourceFault and InputTooLong every line that has ended is answered.
     pub in_time : AnswersInTime source sink hubs (old.0, old.1) (new.0, new.1) store.state status

@@ -18,7 +18,7 @@ use Rattle.script_run.specs.declared.script_state.ScriptState as OfScript
 use Rattle.script_run.proofs.Complete.{complete}
 use Rattle.store_session.specs.StoredStates.{StoredState}
 use Rattle.store_session.specs.contracts.instance.StoreSessionStoredSession.TheImpl.{ghosts as sessions}
-use Rattle.store_undo.specs.UndoCauses.{UndoHasNoRoom, IsCauseInRoom as IsUndoCauseInRoom}
+use Rattle.store_undo.specs.UndoCauses.{UndoHasNoRoom, IsUndoCauseInRoom}
 use Rattle.store_undo.specs.Undoing.{Undoing}
 use Rattle.store_run.specs.Refusals.{EndsRefused}
 use Rattle.store_run.specs.Rooms.{RunHasNoRoom, IsCauseInRoom, PackHasNoRoom, IsPackCauseInRoom}

@@ -11,7 +11,7 @@ use Rattle.store_run.specs.ApplyCall.{ContinuesCall, IsUnopened, IsSafeCall, End
 use Rattle.store_run.specs.InTime.{AnswersInTime}
 use Rattle.store_run.specs.Rooms.{most_bytes, TakesTooMany, RunHasNoRoom, IsApplyCause}
 use Rattle.store_session.specs.contracts.instance.StoreSessionStoredSession.TheImpl.{ghosts as sessions}
-use Rattle.editlens_main.specs.Stores.{Store, RefusedStore, StaysInStep, RefusesStore}
+use Rattle.editlens_main.specs.Stores.{Store, RefusedStore, StoreStaysInStep, RefusesStore}
 use Rattle.command_ends.specs.declared.status.Status.{Status}
 use Rattle.command_ends.specs.declared.status.Status.TheVariants.{DiskFault, NoMemory}
 
@@ -29,7 +29,7 @@ module _ {S K D : Type 0} (source : OfSource.Ghosts S) (sink : OfSink.Ghosts K) 
     pub continues : IsFinished status
         → ContinuesCall source sink disk sessions (old.0, old.1) new store.payloads store.state store.version status
     -- the state of the store is in its lens's consistency relation, and so is every state of the run
-    pub in_step : StaysInStep store.state
+    pub in_step : StoreStaysInStep store.state
     -- At every status: every line that had ended when the source was called last was answered, and its answer written,
     -- or the source was not called. After SourceFault and InputTooLong every line that has ended is answered.
     pub in_time : AnswersInTime source sink sessions (old.0, old.1) (new.0, new.1) store.state status

@@ -15,7 +15,8 @@ ghost use Rattle.editlens_main.specs.Packs.{Packs};
 ghost use Rattle.editlens_main.specs.Runs.{Runs, Checks, RunsHub, RunsLink};
 ghost use Rattle.editlens_main.specs.Shows.{Shows, Verifies};
 ghost use Rattle.editlens_main.specs.Statuses.{MayEnd};
-ghost use Rattle.editlens_main.specs.Top.{GivesUsage, LeavesAlone, IsCaused};
+ghost use Rattle.editlens_main.specs.Top.{GivesUsage, LeavesAlone};
+ghost use Rattle.store_run.specs.FaultCauses.{FaultsAreCaused};
 ghost use Rattle.editlens_main.specs.Undoes.{Undoes};
 
 use crate::generated::run_generated;
@@ -100,7 +101,7 @@ pub fn editlens<S: Source, K: Sink, D: Disk>(
     ensures usage { order_named words.now ≡ None → GivesUsage K.Sink sink.old sink.new result }
     ensures statuses { MayEnd (order_named words.now) result }
     ensures leaves { LeavesAlone (order_named words.now) (source.old, disk.old) (source.new, disk.new) }
-    ensures causes { IsCaused S.Source K.Sink D.Disk
+    ensures causes { FaultsAreCaused S.Source K.Sink D.Disk
         (source.old, sink.old, disk.old) (source.new, sink.new, disk.new) result }
 {
     match read_words(alloc, words) {

@@ -2,7 +2,7 @@
 use Rattle.std.proofs.Common.{◌≡◌, ◌⊎◌, inl, inr, ℕ, List, Option, Some, None, Ok, refl, sym, subst, arith}
 use Rattle.std.specs.Prelude.{IfSome, IsNone}
 use Rattle.std.proofs.KnownBytes.{Appends-nil}
-use Rattle.command_ends.specs.Statuses.{IsAmong, init_statuses}
+use Rattle.command_ends.specs.Statuses.{IsStatusAmong, init_statuses}
 use Rattle.command_ends.specs.declared.status.Status.{Status}
 use Rattle.command_ends.specs.declared.status.Status.TheVariants as ending
 use Rattle.gate_log.specs.LogOnDisk.{LogState, HoldsPayloads}
@@ -14,9 +14,9 @@ use Rattle.lens_io.specs.declared.sink.Sink as OfSink
 use Rattle.lens_io.specs.declared.source.Source as OfSource
 use Rattle.program_terms.specs.Terms.{ProgramTree}
 use Rattle.script_input.specs.Lines.{program_part}
-use Rattle.hub_run.specs.Runs.{HubState, state_text}
+use Rattle.hub_run.specs.Runs.{HubState, hub_state_text}
 use Rattle.hub_run.specs.declared.views.HubRefused.{HubRefused}
-use Rattle.hub_session.specs.HubStates.{stands_for}
+use Rattle.hub_session.specs.HubStates.{hub_stands_for}
 use Rattle.hub_new.specs.HubReading.{RefusesViews}
 use Rattle.hub_new.proofs.HubsRead.{refuses_views}
 use Rattle.store_run.specs.MoreCall.{Exits, IsImage, IsSafeMore, MoreEnds, StoresOne}
@@ -35,7 +35,7 @@ use Rattle.store_run.proofs.Moments.{leaves_more, leaves_then}
 use Rattle.store_run.proofs.Openings.{opening_none, opening_then, unwritten_then}
 use Rattle.store_run.proofs.Rooms.{none_some}
 use Rattle.store_run.specs.ApplyCall.{IsUnopened}
-use Rattle.hub_add.specs.AddCall.{AddEnds, AddsView, EndsAdded, EndsWhole, IsAddCause, IsAddImage, IsSafeAdd, StoresView, ViewHasNoRoom, added_payload, with_view}
+use Rattle.hub_add.specs.AddCall.{AddEnds, AddsView, EndsAdded, EndsWhole, IsAddCause, IsAddImage, IsSafeAdd, StoresView, ViewHasNoRoom, added_payload, state_with_view}
 use Rattle.hub_add.specs.AddReading.{ReadsRefusedView, ReadsView}
 use Rattle.hub_add.specs.AddedView.{added_form, view_part}
 use Rattle.hub_add.proofs.ViewsMore.{is_view_more, text_reads}
@@ -115,12 +115,12 @@ module _ {S K D : Type 0} (source : OfSource.Ghosts S) (sink : OfSink.Ghosts K) 
 
   -- ---- the program is accepted
 
-  pub adds_program : (s s' : S) (k k' : K) (d d' : D) (program : ProgramTree) (form : FormTree) (status : Status) → Holds d → ReadsView source s s' state.forms program form → stands_for before ≡ Ok (state, None)
+  pub adds_program : (s s' : S) (k k' : K) (d d' : D) (program : ProgramTree) (form : FormTree) (status : Status) → Holds d → ReadsView source s s' state.forms program form → hub_stands_for before ≡ Ok (state, None)
       → EndsAdded sink disk (k, d) (k', d') before state program form status → Ends (s, k, d) (s', k', d') status
   adds_program s s' k k' d d' program form status holds r stood (inl e) =
       let text = e.text in
       let reads = text_reads state program form e.payload e.lines text in
-      let ends = subst (λ p. MoreEnds sink disk (k, d) (k', d') before p (state_text (with_view state form text.hub)) status) text.is
+      let ends = subst (λ p. MoreEnds sink disk (k, d) (k', d') before p (hub_state_text (state_with_view state form text.hub)) status) text.is
       (subst (λ l. MoreEnds sink disk (k, d) (k', d') before e.payload l status) text.written e.ends) in
       inr (inr (inr (record {
         bytes = r.bytes;
@@ -132,8 +132,8 @@ module _ {S K D : Type 0} (source : OfSource.Ghosts S) (sink : OfSink.Ghosts K) 
         accepted = r.accepted;
         hub = text.hub;
         more = is_view_more before state (program_part r.bytes) program form text.hub r.accepted text.made reads stood;
-        exits = more.exits_of sink disk images_hold read_holds k k' d d' before (added_payload program) (state_text (with_view state form text.hub)) status ends;
-        safe = more.safe_of_ends sink disk images_hold read_holds k k' d d' before (added_payload program) (state_text (with_view state form text.hub)) status ends;
+        exits = more.exits_of sink disk images_hold read_holds k k' d d' before (added_payload program) (hub_state_text (state_with_view state form text.hub)) status ends;
+        safe = more.safe_of_ends sink disk images_hold read_holds k k' d d' before (added_payload program) (hub_state_text (state_with_view state form text.hub)) status ends;
       })))
   adds_program s s' k k' d d' program form status holds r stood (inr (is, same, given)) =
       subst (λ x. Ends (s, k, d) (s', k', d') x) (sym is)
@@ -156,7 +156,7 @@ module _ {S K D : Type 0} (source : OfSource.Ghosts S) (sink : OfSink.Ghosts K) 
   adds_view s s' k k' d d' status is (inr (inl r)) = absurd (subst (λ (x : Status). StopsAfter (view_part state.forms) r.bytes x) is r.stops)
   adds_view s s' k k' d d' status is (inr (inr (inl r))) = elim r.given [ inl e ↦ let other = e.0 in cc | inr e ↦ let other = e.0 in cc ]
   adds_view s s' k k' d d' status is (inr (inr (inr v))) =
-      let lines = state_text (with_view state v.form v.hub) in
+      let lines = hub_state_text (state_with_view state v.form v.hub) in
       let stored : StoresOne sink disk (k, d) (k', d') before (added_payload v.program) lines =
       elim v.exits [
         | inl e ↦ more.stores_one sink disk images_hold read_holds k k' d d' before (added_payload v.program) lines status is (inl e)
@@ -214,7 +214,7 @@ module _ {S K D : Type 0} (source : OfSource.Ghosts S) (sink : OfSink.Ghosts K) 
     accepted = v.accepted;
     hub = v.hub;
     more = v.more;
-    exits = exits_behind sink disk k k' d0 d d' before (added_payload v.program) (state_text (with_view state v.form v.hub)) status first v.exits;
+    exits = exits_behind sink disk k k' d0 d d' before (added_payload v.program) (hub_state_text (state_with_view state v.form v.hub)) status first v.exits;
     safe = safe_behind disk d0 d d' before (added_payload v.program) first v.safe;
   })))
 
@@ -260,7 +260,7 @@ module _ {S K D : Type 0} (source : OfSource.Ghosts S) (sink : OfSink.Ghosts K) 
     no_room most v h = record { bytes = v.bytes; took = v.took; read = v.read; program = v.program; form = v.form; accepted = v.accepted; no_room = h }
 
     caused : (v : StoresView source sink disk (s, k, d) (s', k', d') before state status) → IsCauseInRoom (disk.room d) before (added_payload v.program) status
-    caused v = more_cause sink disk before (added_payload v.program) (state_text (with_view state v.form v.hub)) k k' d d' bytes status told v.exits
+    caused v = more_cause sink disk before (added_payload v.program) (hub_state_text (state_with_view state v.form v.hub)) k k' d d' bytes status told v.exits
 
     full : Ends (s, k, d) (s', k', d') status → status ≡ ending.StoreRefused → ViewHasNoRoom source s s' before state most_bytes
     full (inl f) is = elim f.fails.0.0 [ inl e ↦ cc | inr e ↦ cc ]
@@ -299,7 +299,7 @@ module _ {S K D : Type 0} (source : OfSource.Ghosts S) (sink : OfSink.Ghosts K) 
     too_many (inr (inr (inr v))) is = absurd (subst (IsCauseInRoom (disk.room d) before (added_payload v.program)) is (caused v))
 
     -- with no fault and with room it comes to its end, or refuses the program part, or memory runs out
-    pub add_complete : Ends (s, k, d) (s', k', d') status → IsAmong init_statuses status → (status ≡ ending.SourceFault → ⊥) → (status ≡ ending.SinkFault → ⊥) → (status ≡ ending.DiskFault → ⊥)
+    pub add_complete : Ends (s, k, d) (s', k', d') status → IsStatusAmong init_statuses status → (status ≡ ending.SourceFault → ⊥) → (status ≡ ending.SinkFault → ⊥) → (status ≡ ending.DiskFault → ⊥)
         → (TakesTooMany source s s' → ⊥) → (ViewHasNoRoom source s s' before state most_bytes → ⊥) → EndsWhole status
     add_complete ends (inl e) no_source no_sink no_disk few room = inl e
     add_complete ends (inr (inl e)) no_source no_sink no_disk few room = inr (inl e)

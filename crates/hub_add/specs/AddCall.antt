@@ -1,4 +1,5 @@
--- The whole command `add`: what it comes to, by its status. Read it from the end: `IsAddCause`, `IsSafeAdd`, `AddsView`,
+-- The whole command `add`: what it comes to, by its status. Read it from the end: `IsAddCause`, `IsSafeAdd`,
+-- `AddsView`,
 -- `AddEnds`, its four cases, then `IsViewMore`.
 use Rattle.std.specs.Prelude.{◌≡◌, ◌⊎◌, ℕ, ◌+◌, ◌≤◌, List, [], ◌∷◌, ◌++◌, length, Some, None, Ok, IfSome}
 use Rattle.lens_io.specs.Calls.{Took, IsRead, IsUnasked, Gave}
@@ -17,10 +18,10 @@ use Rattle.script_input.specs.declared.limits.TheConstants.{MOST_BYTES}
 use Rattle.view_hub.specs.Hubs.{HubTree}
 use Rattle.view_hub.specs.Laws.{IsHub}
 use Rattle.hub_run.specs.FormLenses.{form_lens}
-use Rattle.hub_run.specs.Runs.{HubState, state_text}
+use Rattle.hub_run.specs.Runs.{HubState, hub_state_text}
 use Rattle.hub_records.specs.HubRecords.{tree_of_added}
 use Rattle.hub_records.specs.HubStands.{view_more}
-use Rattle.hub_session.specs.HubStates.{stands_for}
+use Rattle.hub_session.specs.HubStates.{hub_stands_for}
 use Rattle.store_run.specs.MoreCall.{Exits, IsSafeMore, MoreEnds}
 use Rattle.store_run.specs.MoreCauses.{OneHasNoRoom}
 use Rattle.store_new.specs.NewEnds.{GivesLine, RefusesAtOnce, StopsAfter}
@@ -36,8 +37,8 @@ abbrev pub added_payload : ProgramTree → List ℕ
 added_payload program = compact_text (tree_of_added (canonical program))
 
 -- the state with one view more, of this form, and this hub
-abbrev pub with_view : HubState → FormTree → HubTree → HubState
-with_view state form hub = record { forms = state.forms ++ form ∷ []; hub = hub }
+abbrev pub state_with_view : HubState → FormTree → HubTree → HubState
+state_with_view state form hub = record { forms = state.forms ++ form ∷ []; hub = hub }
 
 -- For the helpers: the payload of the program, which reads as its tree, and the state lines of the hub with its view.
 pub record IsViewText (state : HubState) (program : ProgramTree) (form : FormTree) (payload lines : List ℕ) : Type 0
@@ -46,7 +47,7 @@ pub record IsViewText (state : HubState) (program : ProgramTree) (form : FormTre
     pub made : view_more form state.hub ≡ Some hub
     pub is : payload ≡ added_payload program
     pub reads : tree_of_text payload ≡ Some (tree_of_added (canonical program))
-    pub written : lines ≡ state_text (with_view state form hub)
+    pub written : lines ≡ hub_state_text (state_with_view state form hub)
 
 -- The hub with the view of this form behind the others is in step, and the payloads with that of the program behind
 -- them represent it.
@@ -54,7 +55,7 @@ pub record IsViewMore (before : List (List ℕ)) (state : HubState) (program : P
     (hub : HubTree) : Type 0 where
   pub made : view_more form state.hub ≡ Some hub
   pub in_step : IsHub form_lens (state.forms ++ form ∷ []) hub
-  pub stand : stands_for (before ++ added_payload program ∷ []) ≡ Ok (with_view state form hub, None)
+  pub stand : hub_stands_for (before ++ added_payload program ∷ []) ≡ Ok (state_with_view state form hub, None)
 
 module _ {K D : Type 0} (sink : OfSink.Ghosts K) (disk : OfDisk.Ghosts D) (old new : K × D) where
   -- For the helpers: the end of the call behind a program that is accepted, over a log that stands.
@@ -119,7 +120,7 @@ module _ {S K D : Type 0} (source : OfSource.Ghosts S) (sink : OfSink.Ghosts K) 
     pub hub : HubTree
     pub more : IsViewMore before state program form hub
     pub exits : Exits sink disk (old.1, old.2) (new.1, new.2) before (added_payload program)
-        (state_text (with_view state form hub)) status
+        (hub_state_text (state_with_view state form hub)) status
     pub safe : IsSafeMore disk old.2 new.2 before (added_payload program)
 
   -- how the call ends over a store
@@ -139,7 +140,7 @@ pub record AddsView {S K D : Type 0} (source : OfSource.Ghosts S) (sink : OfSink
   pub accepted : IsAcceptedView state.forms (program_part bytes) program form
   pub hub : HubTree
   pub more : IsViewMore before state program form hub
-  pub given : Gave sink old.1 new.1 (state_text (with_view state form hub))
+  pub given : Gave sink old.1 new.1 (hub_state_text (state_with_view state form hub))
   pub kept : IfSome (disk.content new.2) (HoldsPayloads (before ++ added_payload program ∷ []))
 
 -- an image holds the payloads from before; or these and the payload of a program, and these represent the hub with the

@@ -14,7 +14,7 @@ ghost use Rattle.edit_journal.specs.declared.line.Line.{Line};
 ghost use Rattle.edithub_main.specs.HubApplies.{HubApplies};
 ghost use Rattle.edithub_main.specs.HubStores.{HubStore};
 ghost use Rattle.hub_run.specs.Runs.{HubState};
-ghost use Rattle.hub_session.specs.HubStates.{stands_for};
+ghost use Rattle.hub_session.specs.HubStates.{hub_stands_for};
 ghost use Rattle.hub_session.specs.contracts.instance.HubSessionStoredSession.TheImpl.{ghosts as hubs};
 ghost use Rattle.store_laws.specs.CallsOverStores.{FinishesLines, GoesOnFrom, LeavesFirstLines, StaysClosed, held_on};
 ghost use Rattle.store_laws.specs.CutStores.{EndsALine, MeetAgain};
@@ -35,7 +35,7 @@ pub fn a_hub_is_numbered_alike()
 /// those of the accepted changes in order.
 pub fn every_hub_run_exists()
     ensures { (payloads : List (List ℕ)) (state : HubState) (version : Option (List ℕ))
-        → stands_for payloads ≡ Ok (state, version) → (lines : List Line) → IsHubJournalRun state lines }
+        → hub_stands_for payloads ≡ Ok (state, version) → (lines : List Line) → IsHubJournalRun state lines }
 {}
 
 /// What a call of `apply` over the store of a hub leaves is the store and a run over the first lines of what it took.

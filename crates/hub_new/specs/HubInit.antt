@@ -12,9 +12,9 @@ use Rattle.script_input.specs.declared.limits.TheConstants.{MOST_BYTES}
 use Rattle.program_terms.specs.Terms.{ProgramTree}
 use Rattle.program_writing.specs.Canonical.{canonical}
 use Rattle.script_input.specs.Lines.{program_part}
-use Rattle.hub_run.specs.Runs.{first_state, state_text}
+use Rattle.hub_run.specs.Runs.{first_state, hub_state_text}
 use Rattle.hub_records.specs.HubRecords.{tree_of_programs}
-use Rattle.hub_records.specs.HubStands.{at_start, stands_for}
+use Rattle.hub_records.specs.HubStands.{hub_at_start, stands_as_hub}
 use Rattle.store_new.specs.Command.{Command}
 use Rattle.store_new.specs.NewStores.{HoldsStore}
 use Rattle.hub_new.specs.HubParts.{IsAcceptedHub, view_programs}
@@ -30,8 +30,8 @@ pub record BeginsHub (bytes : List ℕ) (payloads : List (List ℕ)) (lines : Li
   pub forms : List FormTree
   pub accepted : IsAcceptedHub (program_part bytes) programs forms
   pub are : payloads ≡ programs_payload programs ∷ []
-  pub written : lines ≡ state_text (first_state forms)
-  pub stand : stands_for payloads ≡ Ok (at_start forms)
+  pub written : lines ≡ hub_state_text (first_state forms)
+  pub stand : stands_as_hub payloads ≡ Ok (hub_at_start forms)
 
 -- `init` refuses no script whose program part is accepted
 abbrev pub hub_command : Command
@@ -42,7 +42,7 @@ pub record IsFirstHub (programs : List ProgramTree) (forms : List FormTree) (pay
     (lines : List ℕ) : Type 0 where
   pub are : payloads ≡ programs_payload programs ∷ []
   pub reads : tree_of_text (programs_payload programs) ≡ Some (tree_of_programs (map canonical programs))
-  pub written : lines ≡ state_text (first_state forms)
+  pub written : lines ≡ hub_state_text (first_state forms)
 
 -- The source was read to its end, and gave these bytes. The disk was empty, and holds the payload of the programs
 -- alone. The state lines of the first hub were written, for which the payload stands.
@@ -57,5 +57,5 @@ pub record StartsHub {S K D : Type 0} (source : OfSource.Ghosts S) (sink : OfSin
   pub forms : List FormTree
   pub accepted : IsAcceptedHub (program_part bytes) programs forms
   pub stored : HoldsStore disk new.2 (programs_payload programs ∷ [])
-  pub given : Gave sink old.1 new.1 (state_text (first_state forms))
-  pub stand : stands_for (programs_payload programs ∷ []) ≡ Ok (at_start forms)
+  pub given : Gave sink old.1 new.1 (hub_state_text (first_state forms))
+  pub stand : stands_as_hub (programs_payload programs ∷ []) ≡ Ok (hub_at_start forms)

@@ -1,13 +1,13 @@
 //! The command `init` of a hub.
 ghost use Rattle.std.specs.Prelude.{◌≡◌, length, map, IfOk, IfSome};
-ghost use Rattle.command_ends.specs.Statuses.{IsAmong, init_statuses};
+ghost use Rattle.command_ends.specs.Statuses.{IsStatusAmong, init_statuses};
 ghost use Rattle.lens_io.specs.Calls.{SourceFailed, SinkFailed, DiskFailed};
 ghost use Rattle.lens_forms.specs.Forms.{form_tree};
 ghost use Rattle.program_terms.specs.Views.{program_tree};
 ghost use Rattle.view_hub.specs.Laws.{HaveOneLeftType};
 ghost use Rattle.hub_run.specs.FormLenses.{form_lens};
 ghost use Rattle.hub_run.specs.FoundLenses.{HasRefusalLine};
-ghost use Rattle.hub_run.specs.Runs.{first_state, state_text};
+ghost use Rattle.hub_run.specs.Runs.{first_state, hub_state_text};
 ghost use Rattle.store_new.specs.NewEnds.{Completes, Ends, KeepsStore, RefusesAtOnce};
 ghost use Rattle.store_new.specs.Making.{EndsPlan};
 ghost use Rattle.store_new.specs.NewRooms.{PlanHasNoRoom, ScriptHasNoRoom};
@@ -49,7 +49,7 @@ pub fn init_hub<S: Source, K: Sink, D: Disk>(
     ensures at_once { RefusesAtOnce view_programs S.Source source.old source.new result }
     ensures exists { KeepsStore S.Source K.Sink D.Disk
         (source.old, sink.old, disk.old) (source.new, sink.new, disk.new) result }
-    ensures statuses { IsAmong init_statuses result }
+    ensures statuses { IsStatusAmong init_statuses result }
     ensures source_fault { result ≡ Status.SourceFault → SourceFailed S.Source source.old source.new }
     ensures sink_fault { result ≡ Status.SinkFault → SinkFailed K.Sink sink.old sink.new }
     ensures disk_fault { result ≡ Status.DiskFault → DiskFailed D.Disk disk.old disk.new }
@@ -141,7 +141,7 @@ fn first_store(alloc: Global, accepted: &AcceptedViews) -> Result<StoreText, All
 // The state lines of the first hub of some lenses.
 fn first_lines(alloc: Global, lenses: &[Typed]) -> Result<Vec<u8>, AllocError>
     requires one_left { HaveOneLeftType form_lens (map form_tree lenses.now) }
-    ensures { IfOk result (λ lines. lines.items ≡ state_text (first_state (map form_tree lenses.now))) }
+    ensures { IfOk result (λ lines. lines.items ≡ hub_state_text (first_state (map form_tree lenses.now))) }
 {
     let hub = HubRun::start(alloc, lenses)?;
     let lines = hub.state_lines(alloc)?;

@@ -15,7 +15,7 @@ use Rattle.store_new.specs.Command.{PartMeaning, Command}
 use Rattle.store_new.specs.NewEnds.{GivesLine, StopsAfter, MakesStore, Ends, MayRefuse, RefusesAtOnce, IsEnd, IsComplete, Completes}
 use Rattle.store_new.specs.Scripts.{IsAcceptedPart, GoesOn, RefusesPart}
 use Rattle.store_new.specs.NewStores.{IsTooLong, EndsMaking}
-use Rattle.command_ends.specs.Statuses.{IsAmong, import_statuses, init_statuses}
+use Rattle.command_ends.specs.Statuses.{IsStatusAmong, import_statuses, init_statuses}
 use Rattle.command_ends.specs.declared.status.Status.{Status}
 use Rattle.command_ends.specs.declared.status.Status.TheVariants.{Done, SomeRefused, Usage, ProgramRefused, StoreRefused, SourceFault, SinkFault, DiskFault, InputTooLong, NoMemory}
 use Rattle.script_input.proofs.TakenParts.{IsFixed, few_taken, fixed_or_read, part_of_all, all_taken}
@@ -50,7 +50,7 @@ module _ {S K D : Type 0} (source : OfSource.Ghosts S) (sink : OfSink.Ghosts K) 
 
 -- ---- how such a command may end
 
-stops_among : (part : PartMeaning) (bytes : List ℕ) (status : Status) → StopsAfter part bytes status → IsAmong init_statuses status
+stops_among : (part : PartMeaning) (bytes : List ℕ) (status : Status) → StopsAfter part bytes status → IsStatusAmong init_statuses status
 stops_among part bytes Done h = absurd h
 stops_among part bytes SomeRefused h = absurd h
 stops_among part bytes Usage h = absurd h
@@ -62,12 +62,12 @@ stops_among part bytes DiskFault h = inr (inr (inr (inr (inr (inl refl)))))
 stops_among part bytes InputTooLong h = inr (inr (inr (inr (inr (inr (inl refl))))))
 stops_among part bytes NoMemory h = inr (inr (inr (inr (inr (inr (inr (inl refl)))))))
 
-by_line_among : (status ending : Status) → IsAmong init_statuses ending → (status ≡ ending) ⊎ (status ≡ SinkFault) → IsAmong init_statuses status
-by_line_among status ending among (inl x) = subst (IsAmong init_statuses) (sym x) among
+by_line_among : (status ending : Status) → IsStatusAmong init_statuses ending → (status ≡ ending) ⊎ (status ≡ SinkFault) → IsStatusAmong init_statuses status
+by_line_among status ending among (inl x) = subst (IsStatusAmong init_statuses) (sym x) among
 by_line_among status ending among (inr x) = inr (inr (inr (inr (inl x))))
 
 module _ {S K D : Type 0} (source : OfSource.Ghosts S) (sink : OfSink.Ghosts K) (disk : OfDisk.Ghosts D) (command : Command) (s s' : S) (k k' : K) (d d' : D) where
-  makes_among : (payloads : List (List ℕ)) (lines : List ℕ) (status : Status) → EndsMaking sink disk (k, d) (k', d') payloads lines status → IsAmong init_statuses status
+  makes_among : (payloads : List (List ℕ)) (lines : List ℕ) (status : Status) → EndsMaking sink disk (k, d) (k', d') payloads lines status → IsStatusAmong init_statuses status
   makes_among payloads lines Done h = inl refl
   makes_among payloads lines SomeRefused h = absurd h
   makes_among payloads lines Usage h = absurd h
@@ -81,7 +81,7 @@ module _ {S K D : Type 0} (source : OfSource.Ghosts S) (sink : OfSink.Ghosts K) 
 
   -- it ends with SomeRefused only if it refuses scripts by its own rules, and never with Usage
   pub ends_among : (status : Status) → Ends source sink disk command (s, k, d) (s', k', d') status
-      → ((bytes : List ℕ) × ((line : List ℕ) × command.refuses bytes line)) × ((status ≡ SomeRefused) ⊎ (status ≡ SinkFault)) ⊎ IsAmong init_statuses status
+      → ((bytes : List ℕ) × ((line : List ℕ) × command.refuses bytes line)) × ((status ≡ SomeRefused) ⊎ (status ≡ SinkFault)) ⊎ IsStatusAmong init_statuses status
   ends_among status (inl e) = inr (by_line_among status StoreRefused (inr (inr (inl refl))) (given_with sink k k' (refusal_line LogExists) StoreRefused status e.given))
   ends_among status (inr (inl e)) = inr (stops_among command.part e.bytes status e.stops)
   ends_among status (inr (inr (inl e))) = inr (by_line_among status ProgramRefused (inr (inl refl)) (given_with sink k k' e.line ProgramRefused status e.given))
@@ -89,15 +89,15 @@ module _ {S K D : Type 0} (source : OfSource.Ghosts S) (sink : OfSink.Ghosts K) 
   ends_among status (inr (inr (inr (inr e)))) = inr (makes_among e.payloads e.lines status e.ends)
 
   -- a command with no rules of its own
-  pub init_among : ((bytes line : List ℕ) → command.refuses bytes line → ⊥) → (status : Status) → Ends source sink disk command (s, k, d) (s', k', d') status → IsAmong init_statuses status
+  pub init_among : ((bytes line : List ℕ) → command.refuses bytes line → ⊥) → (status : Status) → Ends source sink disk command (s, k, d) (s', k', d') status → IsStatusAmong init_statuses status
   init_among never status e = by_end (ends_among status e) where
-    by_end : ((bytes : List ℕ) × ((line : List ℕ) × command.refuses bytes line)) × ((status ≡ SomeRefused) ⊎ (status ≡ SinkFault)) ⊎ IsAmong init_statuses status → IsAmong init_statuses status
+    by_end : ((bytes : List ℕ) × ((line : List ℕ) × command.refuses bytes line)) × ((status ≡ SomeRefused) ⊎ (status ≡ SinkFault)) ⊎ IsStatusAmong init_statuses status → IsStatusAmong init_statuses status
     by_end (inl own) = absurd (never own.0.0 own.0.1.0 own.0.1.1)
     by_end (inr among) = among
 
-  pub import_among : (status : Status) → Ends source sink disk command (s, k, d) (s', k', d') status → IsAmong import_statuses status
+  pub import_among : (status : Status) → Ends source sink disk command (s, k, d) (s', k', d') status → IsStatusAmong import_statuses status
   import_among status e = by_end (ends_among status e) where
-    by_end : ((bytes : List ℕ) × ((line : List ℕ) × command.refuses bytes line)) × ((status ≡ SomeRefused) ⊎ (status ≡ SinkFault)) ⊎ IsAmong init_statuses status → IsAmong import_statuses status
+    by_end : ((bytes : List ℕ) × ((line : List ℕ) × command.refuses bytes line)) × ((status ≡ SomeRefused) ⊎ (status ≡ SinkFault)) ⊎ IsStatusAmong init_statuses status → IsStatusAmong import_statuses status
     by_end (inl (own, inl x)) = inl x
     by_end (inl (own, inr x)) = inr (inr (inr (inr (inr (inl x)))))
     by_end (inr among) = inr among

@@ -21,7 +21,7 @@ use Rattle.edit_module.specs.Words.{WordTree}
 use Rattle.edit_session.specs.Step.{TripleTree}
 use Rattle.lens_forms.specs.Forms.{FormTree, left_type}
 use Rattle.pair_answers.specs.Answers.{state_lines}
-use Rattle.pair_answers.specs.ItemRuns.{IsInStepFor, first_of}
+use Rattle.pair_answers.specs.ItemRuns.{IsInStepFor, triple_at_first}
 use Rattle.script_input.specs.declared.limits.TheConstants.{MOST_BYTES}
 use Rattle.program_terms.specs.Terms.{ProgramTree}
 use Rattle.script_input.specs.Lines.{program_part, journal}
@@ -108,7 +108,7 @@ pub record IsImported (bytes : List ℕ) (program : ProgramTree) (form : FormTre
     (word : WordTree) : Type 0 where
   pub accepted : IsAccepted (program_part bytes) program form
   pub is_document : document_of_script (left_type form) bytes ≡ Ok doc
-  pub steps : step_of form (first_of form) (one (Left, construct (left_type form) doc)) ≡ Some (Ok (after, word ∷ []))
+  pub steps : step_of form (triple_at_first form) (one (Left, construct (left_type form) doc)) ≡ Some (Ok (after, word ∷ []))
   pub left_is : after.left ≡ doc
   pub in_step : IsInStepFor form after
   pub stand : stands (program_payload program ∷ entry_payload (construct (left_type form) doc) ∷ [])

@@ -7,7 +7,7 @@ use Rattle.lens_io.specs.declared.source.Source as OfSource
 use Rattle.serde_json.specs.Written.{compact_text}
 use Rattle.lens_forms.specs.Forms.{FormTree}
 use Rattle.pair_answers.specs.Answers.{state_lines}
-use Rattle.pair_answers.specs.ItemRuns.{first_of}
+use Rattle.pair_answers.specs.ItemRuns.{triple_at_first}
 use Rattle.script_input.specs.declared.limits.TheConstants.{MOST_BYTES}
 use Rattle.program_terms.specs.Terms.{ProgramTree}
 use Rattle.program_writing.specs.Canonical.{canonical}
@@ -30,7 +30,7 @@ pub record Begins (bytes : List ℕ) (payloads : List (List ℕ)) (lines : List 
   pub form : FormTree
   pub accepted : IsAccepted (program_part bytes) program form
   pub are : payloads ≡ program_payload program ∷ []
-  pub written : lines ≡ state_lines form (first_of form)
+  pub written : lines ≡ state_lines form (triple_at_first form)
   pub stand : stands payloads ≡ Ok (at_start (form, 2))
 
 -- `init` refuses no script whose program part is accepted
@@ -50,5 +50,5 @@ pub record Starts {S K D : Type 0} (source : OfSource.Ghosts S) (sink : OfSink.G
   pub form : FormTree
   pub accepted : IsAccepted (program_part bytes) program form
   pub stored : HoldsStore disk new.2 (program_payload program ∷ [])
-  pub given : Gave sink old.1 new.1 (state_lines form (first_of form))
+  pub given : Gave sink old.1 new.1 (state_lines form (triple_at_first form))
   pub stand : stands (program_payload program ∷ []) ≡ Ok (at_start (form, 2))

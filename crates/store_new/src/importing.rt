@@ -1,6 +1,6 @@
 //! The command `import`.
 ghost use Rattle.std.specs.Prelude.{◌≡◌, ◌≤◌, ◌++◌, length, true, IfOk, IfSome, IsErrOf, MatchResult, Ok, Some};
-ghost use Rattle.command_ends.specs.Statuses.{IsAmong, import_statuses};
+ghost use Rattle.command_ends.specs.Statuses.{IsStatusAmong, import_statuses};
 ghost use Rattle.answer_text.specs.Lines.{ok_line};
 ghost use Rattle.doc_values.specs.Documents.{DocTree, doc_tree};
 ghost use Rattle.doc_values.specs.Types.{height};
@@ -11,7 +11,7 @@ ghost use Rattle.edit_module.specs.Views.{entry_tree, word_tree};
 ghost use Rattle.edit_session.specs.Step.{IsInStep, document_on, step};
 ghost use Rattle.edit_session.specs.Views.{triple_tree};
 ghost use Rattle.pair_answers.specs.Answers.{state_lines};
-ghost use Rattle.pair_answers.specs.ItemRuns.{first_of};
+ghost use Rattle.pair_answers.specs.ItemRuns.{triple_at_first};
 ghost use Rattle.lens_core.specs.LensOf.{IsLensOf};
 ghost use Rattle.lens_core.specs.Sides.{near};
 ghost use Rattle.lens_forms.specs.Forms.{form_tree, left_type, right_type};
@@ -110,7 +110,7 @@ pub fn import<S: Source, K: Sink, D: Disk>(
     ensures at_once { RefusesAtOnce one_program S.Source source.old source.new result }
     ensures exists { KeepsStore S.Source K.Sink D.Disk
         (source.old, sink.old, disk.old) (source.new, sink.new, disk.new) result }
-    ensures statuses { IsAmong import_statuses result }
+    ensures statuses { IsStatusAmong import_statuses result }
     ensures source_fault { result ≡ Status.SourceFault → SourceFailed S.Source source.old source.new }
     ensures sink_fault { result ≡ Status.SinkFault → SinkFailed K.Sink sink.old sink.new }
     ensures disk_fault { result ≡ Status.DiskFault → DiskFailed D.Disk disk.old disk.new }
@@ -264,7 +264,7 @@ fn text_of_step<L: EditLens>(
     requires of_form { IsLensOf (L.left_type session.old.lens) (L.right_type session.old.lens)
         (L.start session.old.lens) (L.holds session.old.lens) (L.carried session.old.lens)
         (form_tree lens.now) }
-    requires first { triple_tree session.old.triple ≡ first_of (form_tree lens.now) }
+    requires first { triple_tree session.old.triple ≡ triple_at_first (form_tree lens.now) }
     requires typed { has (left_type (form_tree lens.now)) (doc_tree doc.now) ≡ true }
     ensures { IfOk result (λ e. IsEntryText (form_tree lens.now) (doc_tree doc.now) e.payload e.lines.items) }
 {

@@ -1,5 +1,5 @@
 -- How the whole call ends, and what a crash leaves then.
-use Rattle.command_ends.specs.Statuses.{end_of}
+use Rattle.command_ends.specs.Statuses.{status_at_end}
 use Rattle.std.proofs.Common.{◌≡◌, ◌⊎◌, inl, inr, ℕ, ◌+◌, ◌<◌, List, [], ◌∷◌, ◌++◌, length, take, refl, sym, ap, subst, ◌∙◌, append_assoc, append-nil, arith, length-append}
 use Rattle.std.specs.Prelude.{option_to_list, codes}
 use Rattle.std.proofs.KnownBytes.{Appends-trans, Consumes-nil}
@@ -14,7 +14,8 @@ use Rattle.edit_journal.proofs.Feeding.{all_lines_given}
 use Rattle.gate_log.specs.LogOnDisk.{LogState, HoldsPayloads}
 use Rattle.gate_log.proofs.Behind.{both_keep}
 use Rattle.script_input.specs.Taking.{TakenInput}
-use Rattle.store_run.specs.Answered.{ended_lines, Answers, StopsAmong, EndsPieces}
+use Rattle.store_run.specs.Answered.{Answers, StopsAmong, EndsPieces}
+use Rattle.script_input.specs.Coming.{ended_lines}
 use Rattle.store_run.specs.Crash.{IsAcknowledged, IsCrashSafe}
 use Rattle.store_run.specs.Effects.{HoldsFirst, StandsOn, Adds, Stops}
 use Rattle.store_run.specs.ApplyEnds.{log_full_line, said_at, SaysStop, EndsStored, StopsStored, Continues, Exits, IsSafeFrom}
@@ -98,7 +99,7 @@ module _ {S K D A : Type 0} (source : OfSource.Ghosts S) (sink : OfSink.Ghosts K
 
   module _ (i i' : S) (k k1 k' : K) (d d' : D) (l l' : LogState) (version : Payloads) (t t' : session.State) where
     pub continues : (p : StoreProgress) (status : Status) → EndsStored source sink disk session (i, k, d, l) (i', k1, d', l') version t t' p
-        → status ≡ end_of p.refused → Gave sink k1 k' (session.state_text t') → Continues source sink disk session (i, k, d, l) (i', k', d', l') version t t' status
+        → status ≡ status_at_end p.refused → Gave sink k1 k' (session.state_text t') → Continues source sink disk session (i, k, d, l) (i', k', d', l') version t t' status
     continues p status e is h =
         let a = e.goes_on.answers in
         record {
@@ -113,12 +114,12 @@ module _ {S K D A : Type 0} (source : OfSource.Ghosts S) (sink : OfSink.Ghosts K
           given = Appends-trans (sink.held k) (sink.held k1) (sink.held k') (text_of a.steps) (session.state_text t') a.adds.given h;
           stored = λ base s. a.adds.stored (base ++ version) (e.adds.stored base s);
           behind = both_keep (e.l1.gate + 1) (l'.gate + 1) (disk.content d) (disk.content e.d1) (disk.content d') (omega (arith, a.adds.gate)) e.adds.behind a.adds.behind;
-          ended = is ∙ ap end_of a.refused;
+          ended = is ∙ ap status_at_end a.refused;
         }
 
     -- the state lines were given, or a prefix of them, or memory ran out before them
     pub exits_end : (p : StoreProgress) (status : Status) → EndsStored source sink disk session (i, k, d, l) (i', k1, d', l') version t t' p
-        → (status ≡ end_of p.refused) × AreOtherLines (session.state_text t') × Gave sink k1 k' (session.state_text t')
+        → (status ≡ status_at_end p.refused) × AreOtherLines (session.state_text t') × Gave sink k1 k' (session.state_text t')
         ⊎ (status ≡ ending.SinkFault) × AreOtherLines (session.state_text t') × GaveFront sink k1 k' (session.state_text t')
         ⊎ (status ≡ ending.NoMemory) × Gave sink k1 k' []
         → Exits source sink disk session (i, k, d, l) (i', k', d', l') version t t' status
@@ -311,7 +312,7 @@ module _ {S K D A : Type 0} (source : OfSource.Ghosts S) (sink : OfSink.Ghosts K
         safe_stored_front (subst (λ (x : Stop). StopsStored source sink disk session (i, k, d, l) (i', k1, d', l') version t x) h.0 s) h.2
 
     pub safe_at_end : (t' : session.State) (p : StoreProgress) (status : Status) → EndsStored source sink disk session (i, k, d, l) (i', k1, d', l') version t t' p
-        → (status ≡ end_of p.refused) × AreOtherLines (session.state_text t') × Gave sink k1 k' (session.state_text t')
+        → (status ≡ status_at_end p.refused) × AreOtherLines (session.state_text t') × Gave sink k1 k' (session.state_text t')
         ⊎ (status ≡ ending.SinkFault) × AreOtherLines (session.state_text t') × GaveFront sink k1 k' (session.state_text t')
         ⊎ (status ≡ ending.NoMemory) × Gave sink k1 k' []
         → IsSafeFrom source sink disk session (i, k, d, l) (i', k', d') version t

@@ -12,7 +12,8 @@ use Rattle.edit_journal.specs.declared.line.Line.{Line}
 use Rattle.gate_log.specs.LogOnDisk.{LogState}
 use Rattle.script_input.specs.Taking.{GaveFew}
 use Rattle.script_input.specs.declared.limits.TheConstants.{PIECE_BYTES}
-use Rattle.store_run.specs.Answered.{ended_lines, AllAt, AnswersFirst}
+use Rattle.store_run.specs.Answered.{AllAt, AnswersFirst}
+use Rattle.script_input.specs.Coming.{ended_lines}
 use Rattle.store_run.specs.ApplyCall.{EndsCall}
 use Rattle.store_run.specs.Effects.{GivesAt}
 use Rattle.store_run.specs.ApplyEnds.{log_full_line, said_at, status_of, SaysStop, Exits}

@@ -1,6 +1,6 @@
 -- The whole command `apply`: what it comes to, and what a crash leaves of it.
 -- Read it from the end: `EndsCall` for each status, `IsSafeCall`, then `ContinuesCall`.
-use Rattle.command_ends.specs.Statuses.{end_of}
+use Rattle.command_ends.specs.Statuses.{status_at_end}
 use Rattle.std.specs.Prelude.{◌≡◌, ◌⊎◌, ℕ, ◌+◌, ◌≤◌, List, [], ◌++◌, length, Option, Some, None, Ok, option_to_list}
 use Rattle.std.specs.Prelude.{IfSome}
 use Rattle.lens_io.specs.Calls.{Took, IsRead, IsUnasked, Gave}
@@ -62,7 +62,7 @@ module _ {S K D A : Type 0} (source : OfSource.Ghosts S) (sink : OfSink.Ghosts K
     pub stand : session.stands_for ((before ++ option_to_list version) ++ kept_of steps) ≡ Ok (last t steps, None)
     pub count : session.count_of ((before ++ option_to_list version) ++ kept_of steps)
         ≡ session.count_of before + length (kept_of steps)
-    pub ended : status ≡ end_of (any_refused steps)
+    pub ended : status ≡ status_at_end (any_refused steps)
 
 module _ {S K D A : Type 0} (source : OfSource.Ghosts S) (sink : OfSink.Ghosts K) (disk : OfDisk.Ghosts D)
     (session : OfSession.Ghosts A) (old new : S × K × D) where

@@ -23,7 +23,7 @@ use Rattle.store_run.specs.Stopping.{IsOwnStop}
 use Rattle.store_run.specs.declared.session.StoredAnswer.{StoredAnswer}
 use Rattle.store_run.specs.declared.session.StoredSession as OfSession
 use Rattle.store_run.specs.declared.journal.StoreProgress.{StoreProgress}
-use Rattle.command_ends.specs.Statuses.{end_of}
+use Rattle.command_ends.specs.Statuses.{status_at_end}
 use Rattle.command_ends.specs.declared.status.Status.{Status}
 use Rattle.command_ends.specs.declared.status.Status.TheVariants as ending
 use Rattle.store_run.specs.declared.stop.Stop.{Stop}
@@ -98,7 +98,7 @@ module _ {S K D A : Type 0} (source : OfSource.Ghosts S) (sink : OfSink.Ghosts K
     pub stored : (base : List (List ℕ)) → StandsOn disk old.2 old.3 base
         → StandsOn disk new.2 new.3 ((base ++ version) ++ kept_of steps)
     pub behind : Steps (KeepsBehind (new.3.gate + 1)) (disk.content old.2) (disk.content new.2)
-    pub ended : status ≡ end_of (any_refused steps)
+    pub ended : status ≡ status_at_end (any_refused steps)
 
   -- The end of the journal was reached, and not all of the state lines were written: memory ran out before them, or
   -- the sink failed.

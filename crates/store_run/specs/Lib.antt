@@ -5,6 +5,7 @@ pub mod ApplyEnds
 pub mod CountLines
 pub mod Crash
 pub mod Effects
+pub mod FaultCauses
 pub mod InTime
 pub mod JournalEnds
 pub mod MoreCall

@@ -1,5 +1,5 @@
 //! The command `apply`, from its first call of the disk on.
-ghost use Rattle.command_ends.specs.Statuses.{IsAmong, IsFinished, apply_statuses};
+ghost use Rattle.command_ends.specs.Statuses.{IsStatusAmong, IsFinished, apply_statuses};
 ghost use Rattle.std.specs.Prelude.{◌≡◌, ◌⊎◌};
 ghost use Rattle.lens_io.specs.Calls.{IsUnasked, SourceFailed, SinkFailed, DiskFailed};
 ghost use Rattle.script_input.specs.Taking.{GaveFew};
@@ -76,7 +76,7 @@ pub fn apply<S: Source, A: StoredSession + Drop, K: Sink, D: Disk>(
     ensures refused { (other : RefusedStore D.Disk A.StoredSession disk.old)
         → IsUnwritten D.Disk disk.old disk.new × IsUnasked S.Source source.old source.new
         × EndsRefused K.Sink D.Disk (sink.old, disk.old) (sink.new, disk.new) other.reason result }
-    ensures statuses { IsAmong apply_statuses result }
+    ensures statuses { IsStatusAmong apply_statuses result }
     ensures source_fault { result ≡ Status.SourceFault
         → SourceFailed S.Source source.old source.new }
     ensures sink_fault { result ≡ Status.SinkFault → SinkFailed K.Sink sink.old sink.new }

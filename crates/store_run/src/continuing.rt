@@ -1,5 +1,5 @@
 //! Going on with a session that was opened, by a journal: what comes before the lines and behind them.
-ghost use Rattle.command_ends.specs.Statuses.{IsAmong, apply_statuses, end_of};
+ghost use Rattle.command_ends.specs.Statuses.{IsStatusAmong, apply_statuses, status_at_end};
 ghost use Rattle.std.specs.Prelude.{◌≡◌, ◌⊎◌, ◌+◌, ◌^◌, ◌<◌, ◌≤◌, [], false, List, ℕ, IfOk, IfErr, IsErrOf};
 ghost use Rattle.std.specs.Prelude.{option_to_list};
 ghost use Rattle.lens_io.specs.Calls.{Gave, GaveFront, SourceFailed, SinkFailed, DiskFailed};
@@ -162,7 +162,7 @@ pub fn continue_store<S: Source, A: StoredSession, K: Sink, D: Disk>(
     ensures in_time { AnswersInTime S.Source K.Sink A.StoredSession
         (source.old, sink.old) (source.new, sink.new) (A.state session.old) result }
     ensures few { GaveFew S.Source source.old source.new PIECE_BYTES }
-    ensures statuses { IsAmong apply_statuses result }
+    ensures statuses { IsStatusAmong apply_statuses result }
     ensures source_fault { result ≡ Status.SourceFault
         → SourceFailed S.Source source.old source.new }
     ensures sink_fault { result ≡ Status.SinkFault → SinkFailed K.Sink sink.old sink.new }
@@ -181,7 +181,7 @@ fn give_state<A: StoredSession, K: Sink>(
     progress: StoreProgress,
     sink: &mut K,
 ) -> Status
-    ensures gives { (result ≡ end_of progress.refused)
+    ensures gives { (result ≡ status_at_end progress.refused)
         × AreOtherLines (A.state_text (A.state session.now))
         × Gave K.Sink sink.old sink.new (A.state_text (A.state session.now))
         ⊎ (result ≡ Status.SinkFault)
@@ -189,7 +189,7 @@ fn give_state<A: StoredSession, K: Sink>(
         × GaveFront K.Sink sink.old sink.new (A.state_text (A.state session.now))
         ⊎ (result ≡ Status.NoMemory) × Gave K.Sink sink.old sink.new [] }
     ensures sink_fault { result ≡ Status.SinkFault → SinkFailed K.Sink sink.old sink.new }
-    ensures statuses { IsAmong apply_statuses result }
+    ensures statuses { IsStatusAmong apply_statuses result }
     ensures no_source { result ≡ Status.SourceFault → ⊥ }
     ensures no_disk { result ≡ Status.DiskFault → ⊥ }
 {

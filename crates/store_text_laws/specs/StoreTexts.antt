@@ -8,14 +8,14 @@ use Rattle.edit_session.specs.Run as journals
 use Rattle.edit_session.specs.Step.{TripleTree}
 use Rattle.gate_log.specs.LogOnDisk.{HoldsPayloads}
 use Rattle.hub_run.specs.HubScript.{hub_script}
-use Rattle.hub_run.specs.Runs.{HubState, state_text}
+use Rattle.hub_run.specs.Runs.{HubState, hub_state_text}
 use Rattle.hub_session.specs.HubStates as hubs
 use Rattle.lens_forms.specs.Forms.{FormTree}
 use Rattle.lens_io.specs.Calls.{Took, IsRead, Gave}
 use Rattle.lens_io.specs.declared.disk.Disk as OfDisk
 use Rattle.lens_io.specs.declared.sink.Sink as OfSink
 use Rattle.lens_io.specs.declared.source.Source as OfSource
-use Rattle.pair_answers.specs.ItemRuns.{JournalAnswer, first_of, items_of, run_of}
+use Rattle.pair_answers.specs.ItemRuns.{JournalAnswer, triple_at_first, items_of, run_of}
 use Rattle.pair_run.specs.Scripts.{pair_script}
 use Rattle.script_input.specs.Lines.{journal, program_part}
 use Rattle.script_run.specs.Report.{report}
@@ -44,7 +44,7 @@ module _ {S K D : Type 0} (source : OfSource.Ghosts S) (sink : OfSink.Ghosts K) 
     -- the disk holds payloads that stand for the last triple of the run
     pub payloads : List (List ℕ)
     pub holds : IfSome (disk.content new.2) (HoldsPayloads payloads)
-    pub stands : stands_for payloads ≡ Ok (state_with form (journals.last (first_of form) steps), None)
+    pub stands : stands_for payloads ≡ Ok (state_with form (journals.last (triple_at_first form) steps), None)
 
   -- The call read its source to the end, and none of its lines is a group. It wrote what `hub` writes for every script
   -- that has this program part, and as its journal the lines of the source; the status is the same.
@@ -62,6 +62,6 @@ module _ {S K D : Type 0} (source : OfSource.Ghosts S) (sink : OfSink.Ghosts K) 
     pub payloads : List (List ℕ)
     pub state : HubState
     pub answers : List ℕ
-    pub is_text : text ≡ answers ++ state_text state
+    pub is_text : text ≡ answers ++ hub_state_text state
     pub holds : IfSome (disk.content new.2) (HoldsPayloads payloads)
-    pub stands : hubs.stands_for payloads ≡ Ok (state, None)
+    pub stands : hubs.hub_stands_for payloads ≡ Ok (state, None)

@@ -1,6 +1,6 @@
 use Rattle.std.proofs.Common.{Some, sym, subst, refl}
 use Rattle.command_ends.proofs.AmongStatuses.{quiet_reads_nothing}
-use Rattle.edithub_main.specs.HubEnds.{EndsOrder, MayEnd}
+use Rattle.edithub_main.specs.HubEnds.{EndsOrder, HubMayEnd}
 use Rattle.edithub_main.specs.declared.words.HubOrder.TheVariants.{Init, Apply, Show, Verify, Pack, Undo, Add}
 use Rattle.edithub_main.proofs.HubClauses.{not_reading, not_diskless}
 use Rattle.edithub_main.proofs.top.run_order.Goals as goal
@@ -11,7 +11,7 @@ returns-in-Init-clause-ends g c =
     (sym c.in-Init.is) c.run_init.ensures.makes
 
 pub returns-in-Init-clause-statuses : goal.returns-in-Init-clause-statuses
-returns-in-Init-clause-statuses g c = subst (λ o. MayEnd (Some o) c.run_init.result) (sym c.in-Init.is) c.run_init.ensures.statuses
+returns-in-Init-clause-statuses g c = subst (λ o. HubMayEnd (Some o) c.run_init.result) (sym c.in-Init.is) c.run_init.ensures.statuses
 
 pub returns-in-Init-clause-unread : goal.returns-in-Init-clause-unread
 returns-in-Init-clause-unread g c = λ h. absurd (not_reading c.args.order Init c.in-Init.is refl h)
@@ -25,7 +25,7 @@ returns-in-Apply-clause-ends g c =
     (sym c.in-Apply.is) c.run_apply.ensures.applies
 
 pub returns-in-Apply-clause-statuses : goal.returns-in-Apply-clause-statuses
-returns-in-Apply-clause-statuses g c = subst (λ o. MayEnd (Some o) c.run_apply.result) (sym c.in-Apply.is) c.run_apply.ensures.statuses
+returns-in-Apply-clause-statuses g c = subst (λ o. HubMayEnd (Some o) c.run_apply.result) (sym c.in-Apply.is) c.run_apply.ensures.statuses
 
 pub returns-in-Apply-clause-unread : goal.returns-in-Apply-clause-unread
 returns-in-Apply-clause-unread g c = λ h. absurd (not_reading c.args.order Apply c.in-Apply.is refl h)
@@ -39,7 +39,7 @@ returns-in-Show-clause-ends g c =
     (sym c.in-Show.is) c.run_show.ensures.shows
 
 pub returns-in-Show-clause-statuses : goal.returns-in-Show-clause-statuses
-returns-in-Show-clause-statuses g c = subst (λ o. MayEnd (Some o) c.run_show.result) (sym c.in-Show.is) c.run_show.ensures.statuses
+returns-in-Show-clause-statuses g c = subst (λ o. HubMayEnd (Some o) c.run_show.result) (sym c.in-Show.is) c.run_show.ensures.statuses
 
 pub returns-in-Show-clause-source_fault : goal.returns-in-Show-clause-source_fault
 returns-in-Show-clause-source_fault g c = λ e. absurd (quiet_reads_nothing c.run_show.result c.run_show.ensures.statuses e)
@@ -53,7 +53,7 @@ returns-in-Verify-clause-ends g c =
     (sym c.in-Verify.is) c.run_verify.ensures.verifies
 
 pub returns-in-Verify-clause-statuses : goal.returns-in-Verify-clause-statuses
-returns-in-Verify-clause-statuses g c = subst (λ o. MayEnd (Some o) c.run_verify.result) (sym c.in-Verify.is) c.run_verify.ensures.statuses
+returns-in-Verify-clause-statuses g c = subst (λ o. HubMayEnd (Some o) c.run_verify.result) (sym c.in-Verify.is) c.run_verify.ensures.statuses
 
 pub returns-in-Verify-clause-source_fault : goal.returns-in-Verify-clause-source_fault
 returns-in-Verify-clause-source_fault g c = λ e. absurd (quiet_reads_nothing c.run_verify.result c.run_verify.ensures.statuses e)
@@ -67,7 +67,7 @@ returns-in-Pack-clause-ends g c =
     (sym c.in-Pack.is) c.run_pack.ensures.packs
 
 pub returns-in-Pack-clause-statuses : goal.returns-in-Pack-clause-statuses
-returns-in-Pack-clause-statuses g c = subst (λ o. MayEnd (Some o) c.run_pack.result) (sym c.in-Pack.is) c.run_pack.ensures.statuses
+returns-in-Pack-clause-statuses g c = subst (λ o. HubMayEnd (Some o) c.run_pack.result) (sym c.in-Pack.is) c.run_pack.ensures.statuses
 
 pub returns-in-Pack-clause-source_fault : goal.returns-in-Pack-clause-source_fault
 returns-in-Pack-clause-source_fault g c = λ e. absurd (quiet_reads_nothing c.run_pack.result c.run_pack.ensures.statuses e)
@@ -81,7 +81,7 @@ returns-in-Undo-clause-ends g c =
     (sym c.in-Undo.is) c.run_undo.ensures.undoes
 
 pub returns-in-Undo-clause-statuses : goal.returns-in-Undo-clause-statuses
-returns-in-Undo-clause-statuses g c = subst (λ o. MayEnd (Some o) c.run_undo.result) (sym c.in-Undo.is) c.run_undo.ensures.statuses
+returns-in-Undo-clause-statuses g c = subst (λ o. HubMayEnd (Some o) c.run_undo.result) (sym c.in-Undo.is) c.run_undo.ensures.statuses
 
 pub returns-in-Undo-clause-source_fault : goal.returns-in-Undo-clause-source_fault
 returns-in-Undo-clause-source_fault g c = λ e. absurd (quiet_reads_nothing c.run_undo.result c.run_undo.ensures.statuses e)
@@ -95,7 +95,7 @@ returns-in-Add-clause-ends g c =
     (sym c.in-Add.is) c.run_add.ensures.adds
 
 pub returns-in-Add-clause-statuses : goal.returns-in-Add-clause-statuses
-returns-in-Add-clause-statuses g c = subst (λ o. MayEnd (Some o) c.run_add.result) (sym c.in-Add.is) c.run_add.ensures.statuses
+returns-in-Add-clause-statuses g c = subst (λ o. HubMayEnd (Some o) c.run_add.result) (sym c.in-Add.is) c.run_add.ensures.statuses
 
 pub returns-in-Add-clause-unread : goal.returns-in-Add-clause-unread
 returns-in-Add-clause-unread g c = λ h. absurd (not_reading c.args.order Add c.in-Add.is refl h)
