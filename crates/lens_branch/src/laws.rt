@@ -44,7 +44,8 @@ pub fn record_goes_round()
 #[tactic(auto, using(crate::proofs::RecordRounds::record_begins_in_row))]
 pub fn record_begins_in_row()
     ensures { (rows : RowTrees) (side : Side) (cs : CompTrees) (p : PrimitiveTree) (i : ℕ) (c : CompTree) (w : WordTree)
-        → begin_record rows side cs p ≡ Some (inside i c w) → (l : FormTree) × (row_lens (form_row_list rows) i ≡ Some l) }
+        → begin_record rows side cs p ≡ Some (inside i c w)
+        → (l : FormTree) × (row_lens (form_row_list rows) i ≡ Some l) }
 {}
 
 /// The translation of alternatives is their beginning, the translation of the lens inside, and their finish, where the

@@ -108,7 +108,8 @@ pub record IsImported (bytes : List ℕ) (program : ProgramTree) (form : FormTre
     (word : WordTree) : Type 0 where
   pub accepted : IsAccepted (program_part bytes) program form
   pub is_document : document_of_script (left_type form) bytes ≡ Ok doc
-  pub steps : step_of form (triple_at_first form) (one (Left, construct (left_type form) doc)) ≡ Some (Ok (after, word ∷ []))
+  pub steps : step_of form (triple_at_first form) (one (Left, construct (left_type form) doc))
+      ≡ Some (Ok (after, word ∷ []))
   pub left_is : after.left ≡ doc
   pub in_step : IsInStepFor form after
   pub stand : stands (program_payload program ∷ entry_payload (construct (left_type form) doc) ∷ [])
