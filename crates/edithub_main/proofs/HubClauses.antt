@@ -8,6 +8,7 @@ use Rattle.lens_io.specs.declared.source.Source as OfSource
 use Rattle.edithub_main.specs.HubEnds.{EndsOrder}
 use Rattle.edithub_main.specs.HubOrders.{hub_reads_source, hub_uses_disk}
 use Rattle.edithub_main.specs.declared.words.HubOrder.{HubOrder}
+use Rattle.store_run.specs.Devices.{Devices}
 
 pub not_reading : (o p : HubOrder) → o ≡ p → hub_reads_source (Some p) ≡ true → hub_reads_source (Some o) ≡ false → ⊥
 not_reading o p e reads not = true≢false (sym (ap (λ x. hub_reads_source (Some x)) e ∙ reads) ∙ not)
@@ -18,7 +19,7 @@ not_diskless o p e uses not = true≢false (sym (ap (λ x. hub_uses_disk (Some x
 pub not_none : (o : HubOrder) (q : Option HubOrder) → q ≡ Some o → q ≡ None → ⊥
 not_none o q named e = let never : Some o ≡ None = sym named ∙ e in cc
 
-module _ {S K D : Type 0} (source : OfSource.Ghosts S) (sink : OfSink.Ghosts K) (disk : OfDisk.Ghosts D) (old new : S × K × D) (status : Status) where
+module _ {S K D : Type 0} (source : OfSource.Ghosts S) (sink : OfSink.Ghosts K) (disk : OfDisk.Ghosts D) (old new : Devices S K D) (status : Status) where
   -- the order that the words give is the one that was read
   pub at_order : (o p : HubOrder) (q : Option HubOrder) → q ≡ Some o → EndsOrder source sink disk old new status o → q ≡ Some p → EndsOrder source sink disk old new status p
   at_order o p q named ends e = subst (EndsOrder source sink disk old new status) (same_Some o p (sym named ∙ e)) ends

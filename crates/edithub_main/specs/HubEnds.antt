@@ -16,16 +16,17 @@ use Rattle.edithub_main.specs.HubUndoes.{HubUndoes}
 use Rattle.edithub_main.specs.MakesHub.{MakesHub}
 use Rattle.edithub_main.specs.declared.words.HubOrder.{HubOrder}
 use Rattle.edithub_main.specs.declared.words.HubOrder.TheVariants as order
+use Rattle.store_run.specs.Devices.{Devices}
 
 module _ {S K D : Type 0} (source : OfSource.Ghosts S) (sink : OfSink.Ghosts K) (disk : OfDisk.Ghosts D)
-    (old new : S × K × D) (status : Status) where
+    (old new : Devices S K D) (status : Status) where
   abbrev pub EndsOrder : HubOrder → Type 0
   EndsOrder order.Init = MakesHub source sink disk old new status
   EndsOrder order.Apply = HubApplies source sink disk old new status
-  EndsOrder order.Show = HubShows sink disk (old.1, old.2) (new.1, new.2) status
-  EndsOrder order.Verify = HubVerifies sink disk (old.1, old.2) (new.1, new.2) status
-  EndsOrder order.Pack = HubPacks sink disk (old.1, old.2) (new.1, new.2) status
-  EndsOrder (order.Undo count) = HubUndoes count sink disk (old.1, old.2) (new.1, new.2) status
+  EndsOrder order.Show = HubShows sink disk (old.sink, old.disk) (new.sink, new.disk) status
+  EndsOrder order.Verify = HubVerifies sink disk (old.sink, old.disk) (new.sink, new.disk) status
+  EndsOrder order.Pack = HubPacks sink disk (old.sink, old.disk) (new.sink, new.disk) status
+  EndsOrder (order.Undo count) = HubUndoes count sink disk (old.sink, old.disk) (new.sink, new.disk) status
   EndsOrder order.Add = HubAdds source sink disk old new status
 
 -- the statuses of a command; and of words that name none
@@ -49,5 +50,5 @@ GivesHubUsage sink old new status =
 
 -- a source and a disk that the command does not use are as they were
 pub record HubLeavesAlone {S D : Type 0} (o : Option HubOrder) (old new : S × D) : Type 0 where
-  pub unread : hub_reads_source o ≡ false → new.0 ≡ old.0
-  pub untouched : hub_uses_disk o ≡ false → new.1 ≡ old.1
+  pub unread : hub_reads_source o ≡ false → new.source ≡ old.source
+  pub untouched : hub_uses_disk o ≡ false → new.sink ≡ old.sink

@@ -8,6 +8,7 @@ ghost use Rattle.edithub_main.specs.HubPacks.{HubPacks};
 ghost use Rattle.edithub_main.specs.HubShows.{HubShows, HubVerifies};
 ghost use Rattle.edithub_main.specs.HubUndoes.{HubUndoes};
 ghost use Rattle.edithub_main.specs.MakesHub.{MakesHub};
+ghost use Rattle.store_run.specs.Devices.{devices_of};
 
 use command_ends::Status;
 use hub_add::add;
@@ -26,7 +27,7 @@ pub fn run_init<S: Source, K: Sink, D: Disk>(
     disk: &mut D,
 ) -> Status
     ensures makes { MakesHub S.Source K.Sink D.Disk
-        (source.old, sink.old, disk.old) (source.new, sink.new, disk.new) result }
+        (devices_of source.old sink.old disk.old) (devices_of source.new sink.new disk.new) result }
     ensures statuses { IsStatusAmong init_statuses result }
     ensures source_fault { result ≡ Status.SourceFault → SourceFailed S.Source source.old source.new }
     ensures sink_fault { result ≡ Status.SinkFault → SinkFailed K.Sink sink.old sink.new }
@@ -43,7 +44,7 @@ pub fn run_apply<S: Source, K: Sink, D: Disk>(
     disk: &mut D,
 ) -> Status
     ensures applies { HubApplies S.Source K.Sink D.Disk
-        (source.old, sink.old, disk.old) (source.new, sink.new, disk.new) result }
+        (devices_of source.old sink.old disk.old) (devices_of source.new sink.new disk.new) result }
     ensures statuses { IsStatusAmong apply_statuses result }
     ensures source_fault { result ≡ Status.SourceFault → SourceFailed S.Source source.old source.new }
     ensures sink_fault { result ≡ Status.SinkFault → SinkFailed K.Sink sink.old sink.new }
@@ -100,7 +101,7 @@ pub fn run_add<S: Source, K: Sink, D: Disk>(
     disk: &mut D,
 ) -> Status
     ensures adds { HubAdds S.Source K.Sink D.Disk
-        (source.old, sink.old, disk.old) (source.new, sink.new, disk.new) result }
+        (devices_of source.old sink.old disk.old) (devices_of source.new sink.new disk.new) result }
     ensures statuses { IsStatusAmong init_statuses result }
     ensures source_fault { result ≡ Status.SourceFault → SourceFailed S.Source source.old source.new }
     ensures sink_fault { result ≡ Status.SinkFault → SinkFailed K.Sink sink.old sink.new }

@@ -4,6 +4,7 @@ ghost use Rattle.lens_io.specs.Calls.{SourceFailed, SinkFailed, DiskFailed};
 ghost use Rattle.edithub_main.specs.HubAdds.{HubAdds};
 ghost use Rattle.edithub_main.specs.HubApplies.{HubApplies};
 ghost use Rattle.edithub_main.specs.HubEnds.{EndsOrder, GivesHubUsage, HubLeavesAlone, HubMayEnd};
+ghost use Rattle.store_run.specs.Devices.{devices_of};
 ghost use Rattle.store_run.specs.FaultCauses.{FaultsAreCaused};
 ghost use Rattle.edithub_main.specs.HubOrders.{hub_order_named, hub_reads_source, hub_uses_disk};
 ghost use Rattle.edithub_main.specs.HubPacks.{HubPacks};
@@ -46,9 +47,9 @@ pub fn edithub<S: Source, K: Sink, D: Disk>(
     disk: &mut D,
 ) -> Status
     ensures init { hub_order_named words.now ≡ Some Init
-        → MakesHub S.Source K.Sink D.Disk (source.old, sink.old, disk.old) (source.new, sink.new, disk.new) result }
+        → MakesHub S.Source K.Sink D.Disk (devices_of source.old sink.old disk.old) (devices_of source.new sink.new disk.new) result }
     ensures apply { hub_order_named words.now ≡ Some Apply
-        → HubApplies S.Source K.Sink D.Disk (source.old, sink.old, disk.old) (source.new, sink.new, disk.new) result }
+        → HubApplies S.Source K.Sink D.Disk (devices_of source.old sink.old disk.old) (devices_of source.new sink.new disk.new) result }
     ensures show { hub_order_named words.now ≡ Some Show
         → HubShows K.Sink D.Disk (sink.old, disk.old) (sink.new, disk.new) result }
     ensures verify { hub_order_named words.now ≡ Some Verify
@@ -58,12 +59,12 @@ pub fn edithub<S: Source, K: Sink, D: Disk>(
     ensures undo { (count : ℕ) → hub_order_named words.now ≡ Some (Undo count)
         → HubUndoes count K.Sink D.Disk (sink.old, disk.old) (sink.new, disk.new) result }
     ensures add { hub_order_named words.now ≡ Some Add
-        → HubAdds S.Source K.Sink D.Disk (source.old, sink.old, disk.old) (source.new, sink.new, disk.new) result }
+        → HubAdds S.Source K.Sink D.Disk (devices_of source.old sink.old disk.old) (devices_of source.new sink.new disk.new) result }
     ensures usage { hub_order_named words.now ≡ None → GivesHubUsage K.Sink sink.old sink.new result }
     ensures statuses { HubMayEnd (hub_order_named words.now) result }
     ensures leaves { HubLeavesAlone (hub_order_named words.now) (source.old, disk.old) (source.new, disk.new) }
     ensures causes { FaultsAreCaused S.Source K.Sink D.Disk
-        (source.old, sink.old, disk.old) (source.new, sink.new, disk.new) result }
+        (devices_of source.old sink.old disk.old) (devices_of source.new sink.new disk.new) result }
 {
     match read_order(words) {
         Some(order) => run_order(alloc, order, source, sink, disk),
@@ -80,7 +81,7 @@ fn run_order<S: Source, K: Sink, D: Disk>(
     disk: &mut D,
 ) -> Status
     ensures ends { EndsOrder S.Source K.Sink D.Disk
-        (source.old, sink.old, disk.old) (source.new, sink.new, disk.new) result order }
+        (devices_of source.old sink.old disk.old) (devices_of source.new sink.new disk.new) result order }
     ensures statuses { HubMayEnd (Some order) result }
     ensures unread { hub_reads_source (Some order) ≡ false → source.new ≡ source.old }
     ensures untouched { hub_uses_disk (Some order) ≡ false → disk.new ≡ disk.old }

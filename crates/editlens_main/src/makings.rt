@@ -4,6 +4,7 @@ ghost use Rattle.std.specs.Prelude.{◌≡◌};
 ghost use Rattle.lens_io.specs.Calls.{SourceFailed, SinkFailed, DiskFailed};
 ghost use Rattle.editlens_main.specs.ImportsStore.{ImportsStore};
 ghost use Rattle.editlens_main.specs.MakesStore.{MakesStore};
+ghost use Rattle.store_run.specs.Devices.{devices_of};
 
 use command_ends::Status;
 use lens_io::{Disk, Sink, Source};
@@ -18,7 +19,7 @@ pub fn run_init<S: Source, K: Sink, D: Disk>(
     disk: &mut D,
 ) -> Status
     ensures makes { MakesStore S.Source K.Sink D.Disk
-        (source.old, sink.old, disk.old) (source.new, sink.new, disk.new) result }
+        (devices_of source.old sink.old disk.old) (devices_of source.new sink.new disk.new) result }
     ensures statuses { IsStatusAmong init_statuses result }
     ensures source_fault { result ≡ Status.SourceFault → SourceFailed S.Source source.old source.new }
     ensures sink_fault { result ≡ Status.SinkFault → SinkFailed K.Sink sink.old sink.new }
@@ -35,7 +36,7 @@ pub fn run_import<S: Source, K: Sink, D: Disk>(
     disk: &mut D,
 ) -> Status
     ensures imports { ImportsStore S.Source K.Sink D.Disk
-        (source.old, sink.old, disk.old) (source.new, sink.new, disk.new) result }
+        (devices_of source.old sink.old disk.old) (devices_of source.new sink.new disk.new) result }
     ensures statuses { IsStatusAmong import_statuses result }
     ensures source_fault { result ≡ Status.SourceFault → SourceFailed S.Source source.old source.new }
     ensures sink_fault { result ≡ Status.SinkFault → SinkFailed K.Sink sink.old sink.new }

@@ -7,6 +7,7 @@ ghost use Rattle.editlens_main.specs.Applies.{Applies};
 ghost use Rattle.editlens_main.specs.Packs.{Packs};
 ghost use Rattle.editlens_main.specs.Shows.{Shows, Verifies};
 ghost use Rattle.editlens_main.specs.Undoes.{Undoes};
+ghost use Rattle.store_run.specs.Devices.{devices_of};
 
 use command_ends::Status;
 use lens_io::{Disk, Sink, Source};
@@ -23,7 +24,7 @@ pub fn run_apply<S: Source, K: Sink, D: Disk>(
     disk: &mut D,
 ) -> Status
     ensures applies { Applies S.Source K.Sink D.Disk
-        (source.old, sink.old, disk.old) (source.new, sink.new, disk.new) result }
+        (devices_of source.old sink.old disk.old) (devices_of source.new sink.new disk.new) result }
     ensures statuses { IsStatusAmong apply_statuses result }
     ensures source_fault { result ≡ Status.SourceFault → SourceFailed S.Source source.old source.new }
     ensures sink_fault { result ≡ Status.SinkFault → SinkFailed K.Sink sink.old sink.new }

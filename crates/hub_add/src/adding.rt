@@ -4,6 +4,7 @@ ghost use Rattle.command_ends.specs.Statuses.{IsStatusAmong, init_statuses, quie
 ghost use Rattle.lens_io.specs.Calls.{IsUnasked, SourceFailed, SinkFailed, DiskFailed};
 ghost use Rattle.lens_forms.specs.Forms.{form_tree};
 ghost use Rattle.program_terms.specs.Views.{program_tree};
+ghost use Rattle.store_run.specs.Devices.{devices_of};
 ghost use Rattle.store_run.specs.ApplyCall.{IsUnopened};
 ghost use Rattle.store_run.specs.Effects.{StandsOn};
 ghost use Rattle.store_run.specs.Refusals.{IsUnwritten, EndsRefused};
@@ -57,14 +58,14 @@ pub fn add<S: Source, K: Sink, D: Disk>(
     disk: &mut D,
 ) -> Status
     ensures adds { (store : Store D.Disk hubs disk.old) → result ≡ Status.Done
-        → AddsView S.Source K.Sink D.Disk (source.old, sink.old) (source.new, sink.new, disk.new)
+        → AddsView S.Source K.Sink D.Disk (source.old, sink.old) (devices_of source.new sink.new disk.new)
         store.payloads store.state }
     ensures stops { (store : Store D.Disk hubs disk.old)
-        → AddEnds S.Source K.Sink D.Disk (source.old, sink.old, disk.old) (source.new, sink.new, disk.new)
+        → AddEnds S.Source K.Sink D.Disk (devices_of source.old sink.old disk.old) (devices_of source.new sink.new disk.new)
         store.payloads store.state result }
     ensures survives { (store : Store D.Disk hubs disk.old)
         → (result ≡ Status.DiskFault) × IsUnopened S.Source K.Sink D.Disk
-        (source.old, sink.old, disk.old) (source.new, sink.new, disk.new)
+        (devices_of source.old sink.old disk.old) (devices_of source.new sink.new disk.new)
         ⊎ IsSafeAdd D.Disk disk.old disk.new store.payloads store.state }
     ensures at_once { (store : Store D.Disk hubs disk.old)
         → RefusesViewAtOnce S.Source source.old source.new store.state result }
@@ -108,7 +109,7 @@ fn add_opened<S: Source, K: Sink, D: Disk>(
     requires stands { (base : List (List ℕ)) × StandsOn D.Disk disk.old log.old base }
     ensures ends { (before : List (List ℕ)) → StandsOn D.Disk disk.old log.old before
         → hub_stands_for before ≡ Ok (hub_state_of session.old.hub, None)
-        → AddEnds S.Source K.Sink D.Disk (source.old, sink.old, disk.old) (source.new, sink.new, disk.new)
+        → AddEnds S.Source K.Sink D.Disk (devices_of source.old sink.old disk.old) (devices_of source.new sink.new disk.new)
         before (hub_state_of session.old.hub) result }
     ensures statuses { IsStatusAmong init_statuses result }
     ensures source_fault { result ≡ Status.SourceFault → SourceFailed S.Source source.old source.new }

@@ -32,6 +32,7 @@ use Rattle.hub_run.proofs.FoundForms.{accepted_forms}
 use Rattle.hub_new.specs.HubInit.{BeginsHub, IsFirstHub, StartsHub, hub_command, programs_payload}
 use Rattle.hub_new.specs.HubParts.{IsAcceptedHub, view_programs}
 use Rattle.hub_new.specs.HubReading.{ReadsHub}
+use Rattle.store_run.specs.Devices.{devices_of}
 
 -- the programs alone stand for the first hub
 pub programs_stand_first : (part : List ℕ) (programs : List ProgramTree) (forms : List FormTree) → IsAcceptedHub part programs forms
@@ -66,12 +67,12 @@ module _ {S K D : Type 0} (source : OfSource.Ghosts S) (sink : OfSink.Ghosts K) 
   -- the script was read, and its store was made or its making stopped
   pub begun : (programs : List ProgramTree) (forms : List FormTree) → ReadsHub source s s' programs forms
       → IfSome (disk.content d) (λ before. length before ≡ 0) → EndsPlan sink disk (k, d) (k', d') (IsFirstHub programs forms) status
-      → Ends source sink disk hub_command (s, k, d) (s', k', d') status
+      → Ends source sink disk hub_command (devices_of s k d) (devices_of s' k' d') status
   begun programs forms r empty plan =
       ends_plan source sink disk hub_command s s' k k' d d' r.bytes (IsFirstHub programs forms) status r.took r.read r.within (forms, r.accepted.has_lenses) empty
       (λ payloads lines f. begins r.bytes programs forms payloads lines r.accepted f) plan
 
-  pub starts : Ends source sink disk hub_command (s, k, d) (s', k', d') status → status ≡ Done → StartsHub source sink disk (s, k, d) (s', k', d')
+  pub starts : Ends source sink disk hub_command (devices_of s k d) (devices_of s' k' d') status → status ≡ Done → StartsHub source sink disk (devices_of s k d) (devices_of s' k' d')
   starts e is =
       let m = done source sink disk hub_command s s' k k' d d' status e is in
       let b = m.made in

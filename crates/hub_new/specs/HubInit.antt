@@ -18,6 +18,7 @@ use Rattle.hub_records.specs.HubStands.{hub_at_start, stands_as_hub}
 use Rattle.store_new.specs.Command.{Command}
 use Rattle.store_new.specs.NewStores.{HoldsStore}
 use Rattle.hub_new.specs.HubParts.{IsAcceptedHub, view_programs}
+use Rattle.store_run.specs.Devices.{Devices}
 
 -- the payload of some programs: their canonical texts, in a store of version 1
 abbrev pub programs_payload : List ProgramTree → List ℕ
@@ -47,15 +48,15 @@ pub record IsFirstHub (programs : List ProgramTree) (forms : List FormTree) (pay
 -- The source was read to its end, and gave these bytes. The disk was empty, and holds the payload of the programs
 -- alone. The state lines of the first hub were written, for which the payload stands.
 pub record StartsHub {S K D : Type 0} (source : OfSource.Ghosts S) (sink : OfSink.Ghosts K) (disk : OfDisk.Ghosts D)
-    (old new : S × K × D) : Type 0 where
+    (old new : Devices S K D) : Type 0 where
   pub bytes : List ℕ
-  pub took : Took source old.0 new.0 bytes
-  pub read : IsRead source old.0 new.0
+  pub took : Took source old.source new.source bytes
+  pub read : IsRead source old.source new.source
   pub within : length bytes ≤ MOST_BYTES
-  pub was_empty : IfSome (disk.content old.2) (λ before. length before ≡ 0)
+  pub was_empty : IfSome (disk.content old.disk) (λ before. length before ≡ 0)
   pub programs : List ProgramTree
   pub forms : List FormTree
   pub accepted : IsAcceptedHub (program_part bytes) programs forms
-  pub stored : HoldsStore disk new.2 (programs_payload programs ∷ [])
-  pub given : Gave sink old.1 new.1 (hub_state_text (first_state forms))
+  pub stored : HoldsStore disk new.disk (programs_payload programs ∷ [])
+  pub given : Gave sink old.sink new.sink (hub_state_text (first_state forms))
   pub stand : stands_as_hub (programs_payload programs ∷ []) ≡ Ok (hub_at_start forms)

@@ -14,6 +14,7 @@ ghost use Rattle.store_new.specs.NewRooms.{PlanHasNoRoom, ScriptHasNoRoom};
 ghost use Rattle.hub_new.specs.HubInit.{IsFirstHub, StartsHub, hub_command};
 ghost use Rattle.hub_new.specs.HubParts.{view_programs};
 ghost use Rattle.hub_new.specs.HubReading.{RefusesViews};
+ghost use Rattle.store_run.specs.Devices.{devices_of};
 
 use crate::reading::{UnreadHub, read_views};
 use command_ends::Status;
@@ -43,12 +44,12 @@ pub fn init_hub<S: Source, K: Sink, D: Disk>(
     disk: &mut D,
 ) -> Status
     ensures starts { result ≡ Status.Done
-        → StartsHub S.Source K.Sink D.Disk (source.old, sink.old, disk.old) (source.new, sink.new, disk.new) }
+        → StartsHub S.Source K.Sink D.Disk (devices_of source.old sink.old disk.old) (devices_of source.new sink.new disk.new) }
     ensures ends { Ends S.Source K.Sink D.Disk hub_command
-        (source.old, sink.old, disk.old) (source.new, sink.new, disk.new) result }
+        (devices_of source.old sink.old disk.old) (devices_of source.new sink.new disk.new) result }
     ensures at_once { RefusesAtOnce view_programs S.Source source.old source.new result }
     ensures exists { KeepsStore S.Source K.Sink D.Disk
-        (source.old, sink.old, disk.old) (source.new, sink.new, disk.new) result }
+        (devices_of source.old sink.old disk.old) (devices_of source.new sink.new disk.new) result }
     ensures statuses { IsStatusAmong init_statuses result }
     ensures source_fault { result ≡ Status.SourceFault → SourceFailed S.Source source.old source.new }
     ensures sink_fault { result ≡ Status.SinkFault → SinkFailed K.Sink sink.old sink.new }
@@ -56,7 +57,7 @@ pub fn init_hub<S: Source, K: Sink, D: Disk>(
     ensures room { result ≡ Status.DiskFault
         → IfSome (D.room disk.old) (ScriptHasNoRoom S.Source hub_command source.old source.new) }
     ensures complete { Completes S.Source K.Sink D.Disk hub_command
-        (source.old, sink.old, disk.old) (source.new, sink.new, disk.new) result }
+        (devices_of source.old sink.old disk.old) (devices_of source.new sink.new disk.new) result }
 {
     match disk.len() {
         Ok(0) => init_empty(alloc, source, sink, disk),
@@ -74,7 +75,7 @@ fn init_empty<S: Source, K: Sink, D: Disk>(
 ) -> Status
     requires empty { IfSome (D.content disk.old) (λ bytes. length bytes ≡ 0) }
     ensures ends { Ends S.Source K.Sink D.Disk hub_command
-        (source.old, sink.old, disk.old) (source.new, sink.new, disk.new) result }
+        (devices_of source.old sink.old disk.old) (devices_of source.new sink.new disk.new) result }
     ensures source_fault { result ≡ Status.SourceFault → SourceFailed S.Source source.old source.new }
     ensures sink_fault { result ≡ Status.SinkFault → SinkFailed K.Sink sink.old sink.new }
     ensures disk_fault { result ≡ Status.DiskFault → DiskFailed D.Disk disk.old disk.new }

@@ -28,6 +28,7 @@ ghost use Rattle.store_new.specs.Import.{Imports, RefusesImport, import_command}
 ghost use Rattle.store_new.specs.Making.{EndsPlan};
 ghost use Rattle.store_new.specs.NewRooms.{PlanHasNoRoom, ScriptHasNoRoom};
 ghost use Rattle.store_new.specs.ImportStores.{EndsImport, IsEntryText, IsFoundStore, IsImportStore, MakesDocument};
+ghost use Rattle.store_run.specs.Devices.{devices_of};
 
 use crate::document::{DocumentFault, Found, document_of, find_lines};
 use crate::scripts::status_at;
@@ -102,14 +103,14 @@ pub fn import<S: Source, K: Sink, D: Disk>(
     disk: &mut D,
 ) -> Status
     ensures imports { result ≡ Status.Done
-        → Imports S.Source K.Sink D.Disk (source.old, sink.old, disk.old) (source.new, sink.new, disk.new) }
+        → Imports S.Source K.Sink D.Disk (devices_of source.old sink.old disk.old) (devices_of source.new sink.new disk.new) }
     ensures refuses { result ≡ Status.SomeRefused
-        → RefusesImport S.Source K.Sink D.Disk (source.old, sink.old, disk.old) (source.new, sink.new, disk.new) }
+        → RefusesImport S.Source K.Sink D.Disk (devices_of source.old sink.old disk.old) (devices_of source.new sink.new disk.new) }
     ensures ends { Ends S.Source K.Sink D.Disk import_command
-        (source.old, sink.old, disk.old) (source.new, sink.new, disk.new) result }
+        (devices_of source.old sink.old disk.old) (devices_of source.new sink.new disk.new) result }
     ensures at_once { RefusesAtOnce one_program S.Source source.old source.new result }
     ensures exists { KeepsStore S.Source K.Sink D.Disk
-        (source.old, sink.old, disk.old) (source.new, sink.new, disk.new) result }
+        (devices_of source.old sink.old disk.old) (devices_of source.new sink.new disk.new) result }
     ensures statuses { IsStatusAmong import_statuses result }
     ensures source_fault { result ≡ Status.SourceFault → SourceFailed S.Source source.old source.new }
     ensures sink_fault { result ≡ Status.SinkFault → SinkFailed K.Sink sink.old sink.new }
@@ -117,7 +118,7 @@ pub fn import<S: Source, K: Sink, D: Disk>(
     ensures room { result ≡ Status.DiskFault
         → IfSome (D.room disk.old) (ScriptHasNoRoom S.Source import_command source.old source.new) }
     ensures complete { Completes S.Source K.Sink D.Disk import_command
-        (source.old, sink.old, disk.old) (source.new, sink.new, disk.new) result }
+        (devices_of source.old sink.old disk.old) (devices_of source.new sink.new disk.new) result }
 {
     match disk.len() {
         Ok(0) => import_empty(alloc, source, sink, disk),
@@ -135,7 +136,7 @@ fn import_empty<S: Source, K: Sink, D: Disk>(
 ) -> Status
     requires empty { IfSome (D.content disk.old) (λ bytes. length bytes ≡ 0) }
     ensures ends { Ends S.Source K.Sink D.Disk import_command
-        (source.old, sink.old, disk.old) (source.new, sink.new, disk.new) result }
+        (devices_of source.old sink.old disk.old) (devices_of source.new sink.new disk.new) result }
     ensures source_fault { result ≡ Status.SourceFault → SourceFailed S.Source source.old source.new }
     ensures sink_fault { result ≡ Status.SinkFault → SinkFailed K.Sink sink.old sink.new }
     ensures disk_fault { result ≡ Status.DiskFault → DiskFailed D.Disk disk.old disk.new }

@@ -11,6 +11,7 @@ use Rattle.edit_journal.specs.declared.line.Line.{Line}
 use Rattle.edit_journal.proofs.Feeding.{all_lines_given}
 use Rattle.gate_log.specs.LogBytes.{payloads, records_length, closed_gate}
 use Rattle.gate_log.specs.LogOnDisk.{LogState, Stands}
+use Rattle.store_run.specs.Devices.{devices_of}
 use Rattle.store_run.specs.Answered.{StopsAmong}
 use Rattle.script_input.specs.Coming.{ended_lines}
 use Rattle.store_run.specs.ApplyCall.{EndsCall}
@@ -174,7 +175,7 @@ module _ {S K D A : Type 0} (source : OfSource.Ghosts S) (sink : OfSink.Ghosts K
   ]
 
   pub apply_cause : (k k' : K) (d d' : D) (bytes : List ℕ) (status : Status) → disk.content d ≡ Some bytes
-      → EndsCall source sink disk session (i, k, d) (i', k', d') before t version status
+      → EndsCall source sink disk session (devices_of i k d) (devices_of i' k' d') before t version status
       → IsCauseInRoom source session i i' (disk.room d) before t version status
   apply_cause k k' d d' bytes status told (inl o) =
       let g = gate_of (disk.content o.d1) (disk.images o.d1) o.log before bytes (o.opens.unwritten.same ∙ told) o.stands in

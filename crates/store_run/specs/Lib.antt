@@ -4,6 +4,7 @@ pub mod ApplyCauses
 pub mod ApplyEnds
 pub mod CountLines
 pub mod Crash
+pub mod Devices
 pub mod Effects
 pub mod FaultCauses
 pub mod InTime

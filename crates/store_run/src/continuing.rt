@@ -6,6 +6,7 @@ ghost use Rattle.lens_io.specs.Calls.{Gave, GaveFront, SourceFailed, SinkFailed,
 ghost use Rattle.edit_journal.specs.Pieces.{last_line};
 ghost use Rattle.script_input.specs.Taking.{GaveFew};
 ghost use Rattle.script_input.specs.declared.limits.TheConstants.{PIECE_BYTES};
+ghost use Rattle.store_run.specs.Devices.{devices_of};
 ghost use Rattle.store_run.specs.Answered.{Answers, StopsAmong};
 ghost use Rattle.store_run.specs.ApplyCauses.{Counted, stop_in};
 ghost use Rattle.store_run.specs.Effects.{StandsOn};
@@ -157,7 +158,7 @@ pub fn continue_store<S: Source, A: StoredSession, K: Sink, D: Disk>(
         (option_to_list version.now) (A.state session.old)
         (A.state session.new) result }
     ensures safe { IsSafeFrom S.Source K.Sink D.Disk A.StoredSession
-        (source.old, sink.old, disk.old, log.old) (source.new, sink.new, disk.new)
+        (source.old, sink.old, disk.old, log.old) (devices_of source.new sink.new disk.new)
         (option_to_list version.now) (A.state session.old) }
     ensures in_time { AnswersInTime S.Source K.Sink A.StoredSession
         (source.old, sink.old) (source.new, sink.new) (A.state session.old) result }

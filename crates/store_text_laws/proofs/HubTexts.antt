@@ -24,6 +24,7 @@ use Rattle.script_input.specs.Lines.{journal, program_part}
 use Rattle.script_run.specs.LineRuns as scripted
 use Rattle.script_run.specs.Report.{report, report_with, with_state}
 use Rattle.script_run.specs.declared.line_answers.Answer.{Answer}
+use Rattle.store_run.specs.Devices.{Devices}
 use Rattle.store_run.specs.ApplyCall.{ContinuesCall}
 use Rattle.store_run.specs.StoreRuns.{any_refused, kept_of, last, run, text_of}
 use Rattle.store_run.specs.declared.session.StoredAnswer.{StoredAnswer}
@@ -60,9 +61,9 @@ module _ (script : List ℕ) (forms : List FormTree) (lines : List Line) (steps 
 
 -- ---- a call
 
-module _ {S K D : Type 0} (source : OfSource.Ghosts S) (sink : OfSink.Ghosts K) (disk : OfDisk.Ghosts D) (old1 new1 old2 new2 : S × K × D) (status : Status) (image : List ℕ)
-    (made : StartsHub source sink disk old1 new1) (told : disk.content old2.2 ≡ Some image) (holds : HoldsPayloads (programs_payload made.programs ∷ []) image) where
-  abbrev store : HubStore disk old2.2
+module _ {S K D : Type 0} (source : OfSource.Ghosts S) (sink : OfSink.Ghosts K) (disk : OfDisk.Ghosts D) (old1 new1 old2 new2 : Devices S K D) (status : Status) (image : List ℕ)
+    (made : StartsHub source sink disk old1 new1) (told : disk.content old2.disk ≡ Some image) (holds : HoldsPayloads (programs_payload made.programs ∷ []) image) where
+  abbrev store : HubStore disk old2.disk
   store = record {
     bytes = image;
     told = told;
@@ -73,7 +74,7 @@ module _ {S K D : Type 0} (source : OfSource.Ghosts S) (sink : OfSink.Ghosts K) 
     stands = ap hub_opened_as made.stand;
   }
 
-  answers : ContinuesCall source sink disk hubs (old2.0, old2.1) new2 store.payloads store.state store.version status → AnswersAsHub source sink disk old2 new2 status (program_part made.bytes)
+  answers : ContinuesCall source sink disk hubs (old2.source, old2.sink) new2 store.payloads store.state store.version status → AnswersAsHub source sink disk old2 new2 status (program_part made.bytes)
   answers c = record {
     bytes = c.bytes;
     took = c.consumes;

@@ -15,6 +15,7 @@ use Rattle.pair_answers.specs.Answers.{answer_lines, text_from}
 use Rattle.pair_answers.specs.ItemRuns.{triple_at_first, items_of, run_of}
 use Rattle.script_input.specs.Lines.{program_part}
 use Rattle.store_new.specs.Init.{Starts, program_payload}
+use Rattle.store_run.specs.Devices.{Devices}
 use Rattle.store_run.specs.ApplyCall.{ContinuesCall}
 use Rattle.store_run.specs.StoreRuns.{kept_of, last, text_of}
 use Rattle.store_session.specs.Journals.{IsJournalRun}
@@ -27,12 +28,12 @@ use Rattle.store_session.proofs.StatesInStep.{stored_sound}
 use Rattle.one_text_laws.proofs.PairReports.{run_is_report}
 use Rattle.store_text_laws.specs.StoreTexts.{AnswersAsRun}
 
-module _ {S K D : Type 0} (source : OfSource.Ghosts S) (sink : OfSink.Ghosts K) (disk : OfDisk.Ghosts D) (old1 new1 old2 new2 : S × K × D) (status : Status) (image : List ℕ)
-    (made : Starts source sink disk old1 new1) (told : disk.content old2.2 ≡ Some image) (holds : HoldsPayloads (program_payload made.program ∷ []) image) where
+module _ {S K D : Type 0} (source : OfSource.Ghosts S) (sink : OfSink.Ghosts K) (disk : OfDisk.Ghosts D) (old1 new1 old2 new2 : Devices S K D) (status : Status) (image : List ℕ)
+    (made : Starts source sink disk old1 new1) (told : disk.content old2.disk ≡ Some image) (holds : HoldsPayloads (program_payload made.program ∷ []) image) where
   abbrev start : StoredState
   start = state_with made.form (triple_at_first made.form)
 
-  abbrev store : Store disk old2.2
+  abbrev store : Store disk old2.disk
   store = record {
     bytes = image;
     told = told;
@@ -43,7 +44,7 @@ module _ {S K D : Type 0} (source : OfSource.Ghosts S) (sink : OfSink.Ghosts K) 
     stands = ap opened_as made.stand;
   }
 
-  module _ (c : ContinuesCall source sink disk sessions (old2.0, old2.1) new2 store.payloads store.state store.version status) where
+  module _ (c : ContinuesCall source sink disk sessions (old2.source, old2.sink) new2 store.payloads store.state store.version status) where
     journal_run : IsJournalRun start 0 (lines_of c.bytes) c.steps
     journal_run =
         let sound = stored_sound store.payloads start None store.stands in

@@ -15,6 +15,7 @@ use Rattle.hub_add.proofs.AddStatuses.{quiet_inits, refused_among, stopped_among
 use Rattle.hub_add.proofs.AddsRead.{added_joins}
 use Rattle.hub_add.proofs.AddingEnds.{adds_program, refuses_view, stops_reading}
 use Rattle.hub_add.proofs.adding.add_opened.Goals as goal
+use Rattle.store_run.specs.Devices.{devices_of}
 
 pub add_program-requires-clause-joins : goal.add_program-requires-clause-joins
 add_program-requires-clause-joins g c =
@@ -63,7 +64,7 @@ returns-in-Err-Stopped-clause-ends g c =
     let unread = rw c.in-Err-Stopped.field-0-is at c.in-Err-Stopped.ensures.script in
     let r = subst (λ fs. ReadsFront (view_part fs) g.S.Source c.args.source.now c.read_view.new.source c.in-Err-Stopped.fault) lenses unread in
     λ before st stood.
-    subst (λ status. AddEnds g.S.Source g.K.Sink disk (c.args.source.now, c.args.sink.now, c.args.disk.now) (c.read_view.new.source, c.args.sink.now, c.args.disk.now) before state status)
+    subst (λ status. AddEnds g.S.Source g.K.Sink disk (devices_of c.args.source.now c.args.sink.now c.args.disk.now) (devices_of c.read_view.new.source c.args.sink.now c.args.disk.now) before state status)
     (sym c.status_at.ensures)
     (stops_reading g.S.Source g.K.Sink disk hold reads g.met.D.Disk.only_now before state c.args.source.now c.read_view.new.source c.args.sink.now c.args.disk.now c.in-Err-Stopped.fault
     (λ x now. hold c.args.log.now c.args.disk.now before x st now) r)
