@@ -56,4 +56,5 @@ module _ {S K D : Type 0} (source : OfSource.Ghosts S) (sink : OfSink.Ghosts K) 
     -- over bytes that are no store of a hub the line `store refused: REASON` was written, unless a device failed or
     -- memory ran out; nothing is written to the disk, and the source is not called
     pub refuses : (other : RefusedHub disk old.disk)
-        → RefusesHub sink disk (old.sink, old.disk) (new.sink, new.disk) status other.reason × IsUnasked source old.source new.source
+        → RefusesHub sink disk (old.sink, old.disk) (new.sink, new.disk) status other.reason
+            × IsUnasked source old.source new.source

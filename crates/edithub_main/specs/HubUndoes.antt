@@ -25,7 +25,8 @@ module _ (count : ℕ) {K D : Type 0} (sink : OfSink.Ghosts K) (disk : OfDisk.Gh
     -- That hub is in step, the store represents it, and the words that were written take each document back.
     pub continues : status ≡ Done → UndoesCall sink disk old new store.payloads store.undone
     -- what was written and stored at every status
-    pub stops : Exits sink disk old new store.payloads (hub_undo_snapshot_text store.undone) (hub_undo_text store.undone)
+    pub stops : Exits sink disk old new store.payloads (hub_undo_snapshot_text store.undone)
+        (hub_undo_text store.undone)
         status
     -- an image of a crash, at each moment of the call and at its end, was possible before the call, or represents the
     -- hub before the last changes or the one from before the call

@@ -47,9 +47,11 @@ pub fn edithub<S: Source, K: Sink, D: Disk>(
     disk: &mut D,
 ) -> Status
     ensures init { hub_order_named words.now ≡ Some Init
-        → MakesHub S.Source K.Sink D.Disk (devices_of source.old sink.old disk.old) (devices_of source.new sink.new disk.new) result }
+        → MakesHub S.Source K.Sink D.Disk (devices_of source.old sink.old disk.old)
+            (devices_of source.new sink.new disk.new) result }
     ensures apply { hub_order_named words.now ≡ Some Apply
-        → HubApplies S.Source K.Sink D.Disk (devices_of source.old sink.old disk.old) (devices_of source.new sink.new disk.new) result }
+        → HubApplies S.Source K.Sink D.Disk (devices_of source.old sink.old disk.old)
+            (devices_of source.new sink.new disk.new) result }
     ensures show { hub_order_named words.now ≡ Some Show
         → HubShows K.Sink D.Disk (sink.old, disk.old) (sink.new, disk.new) result }
     ensures verify { hub_order_named words.now ≡ Some Verify
@@ -59,7 +61,8 @@ pub fn edithub<S: Source, K: Sink, D: Disk>(
     ensures undo { (count : ℕ) → hub_order_named words.now ≡ Some (Undo count)
         → HubUndoes count K.Sink D.Disk (sink.old, disk.old) (sink.new, disk.new) result }
     ensures add { hub_order_named words.now ≡ Some Add
-        → HubAdds S.Source K.Sink D.Disk (devices_of source.old sink.old disk.old) (devices_of source.new sink.new disk.new) result }
+        → HubAdds S.Source K.Sink D.Disk (devices_of source.old sink.old disk.old)
+            (devices_of source.new sink.new disk.new) result }
     ensures usage { hub_order_named words.now ≡ None → GivesHubUsage K.Sink sink.old sink.new result }
     ensures statuses { HubMayEnd (hub_order_named words.now) result }
     ensures leaves { HubLeavesAlone (hub_order_named words.now) (source.old, disk.old) (source.new, disk.new) }

@@ -36,7 +36,8 @@ module _ {S K D : Type 0} (source : OfSource.Ghosts S) (sink : OfSink.Ghosts K) 
     -- came, the source is at its end.
     pub at_once : RefusesAtOnce one_program source old.source new.source status
     -- a disk of known room fails only if the script was read to its end and the disk has no room for its store
-    pub caused : status ≡ DiskFault → IfSome (disk.room old.disk) (ScriptHasNoRoom source init_command old.source new.source)
+    pub caused : status ≡ DiskFault
+        → IfSome (disk.room old.disk) (ScriptHasNoRoom source init_command old.source new.source)
     -- over an empty disk and at most 2^30 bytes, if no device fails and the log has room, it comes to its end, or
     -- refuses the program part, or memory runs out
     pub completes : Completes source sink disk init_command old new status

@@ -33,7 +33,8 @@ module _ {S K D A : Type 0} (source : OfSource.Ghosts S) (sink : OfSink.Ghosts K
     (session : OfSession.Ghosts A) where
   -- A call of `apply` over a store, as far as the laws need it: what it comes to at its end, and what a crash leaves of
   -- it. These are clauses of the contract of every such call.
-  pub record AppliesOver (old new : Devices S K D) (status : Status) (store : Store disk session old.disk) : Type 0 where
+  pub record AppliesOver (old new : Devices S K D) (status : Status) (store : Store disk session old.disk) : Type 0
+      where
     pub continues : IsFinished status → ContinuesCall source sink disk session (old.source, old.sink) new store.payloads
         store.state store.version status
     pub survives : (status ≡ DiskFault) × IsUnopened source sink disk old new

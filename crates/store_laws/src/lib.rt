@@ -75,7 +75,8 @@ pub fn two_calls_are_one_run<A: StoredSession, S: Source, K: Sink, D: Disk>()
         ⊎ ((first : LeavesFirstLines S.Source K.Sink D.Disk A.StoredSession old1 new1
         (held_on D.Disk A.StoredSession old1.disk store) image)
         × GoesOnFrom S.Source K.Sink D.Disk A.StoredSession old2 new2 status2 first.run) }
-    ensures finished { IsNumberedAlike A.StoredSession → (old1 new1 old2 new2 : Devices S K D) (status1 status2 : Status)
+    ensures finished { IsNumberedAlike A.StoredSession
+        → (old1 new1 old2 new2 : Devices S K D) (status1 status2 : Status)
         (store : Store D.Disk A.StoredSession old1.disk) (image : List ℕ)
         → AppliesOver S.Source K.Sink D.Disk A.StoredSession old1 new1 status1 store → IsFinished status1
         → D.Disk.content new1.disk ≡ Some image

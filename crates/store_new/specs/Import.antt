@@ -150,7 +150,8 @@ module _ {S K D : Type 0} (source : OfSource.Ghosts S) (sink : OfSink.Ghosts K) 
     pub after : TripleTree
     pub word : WordTree
     pub imported : IsImported bytes program form doc after word
-    pub stored : HoldsStore disk new.disk (program_payload program ∷ entry_payload (construct (left_type form) doc) ∷ [])
+    pub stored : HoldsStore disk new.disk
+        (program_payload program ∷ entry_payload (construct (left_type form) doc) ∷ [])
     pub given : Gave sink old.sink new.sink (ok_line 1 Right word ++ state_lines form after)
 
   -- The script was read to its end, and its document is refused: the line of that refusal was written. The disk was

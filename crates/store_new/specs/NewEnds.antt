@@ -164,5 +164,6 @@ module _ {S K D : Type 0} (source : OfSource.Ghosts S) (sink : OfSink.Ghosts K) 
   -- over an empty disk and a source of at most 2^30 bytes the command is complete if no device failed
   abbrev pub Completes : Type 0
   Completes = disk.content old.disk ≡ Some [] → IfSome (source.left old.source) (λ bytes. length bytes ≤ MOST_BYTES
-      → (SourceFailed source old.source new.source → ⊥) → (SinkFailed sink old.sink new.sink → ⊥) → (DiskFailed disk old.disk new.disk → ⊥)
+      → (SourceFailed source old.source new.source → ⊥) → (SinkFailed sink old.sink new.sink → ⊥)
+          → (DiskFailed disk old.disk new.disk → ⊥)
       → IsComplete command bytes status)

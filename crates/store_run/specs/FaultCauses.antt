@@ -9,7 +9,8 @@ use Rattle.command_ends.specs.declared.status.Status.TheVariants.{SourceFault, S
 use Rattle.store_run.specs.Devices.{Devices}
 
 -- these statuses come only if the device failed
-pub record FaultsAreCaused {S K D : Type 0} (source : OfSource.Ghosts S) (sink : OfSink.Ghosts K) (disk : OfDisk.Ghosts D)
+pub record FaultsAreCaused {S K D : Type 0} (source : OfSource.Ghosts S) (sink : OfSink.Ghosts K)
+    (disk : OfDisk.Ghosts D)
     (old new : Devices S K D) (status : Status) : Type 0 where
   pub source_fault : status ≡ SourceFault → SourceFailed source old.source new.source
   pub sink_fault : status ≡ SinkFault → SinkFailed sink old.sink new.sink
