@@ -11,7 +11,7 @@
 /* A session or a hub: the tag of its values, how it is closed, and what is said of one that is closed. */
 struct kind {
     napi_type_tag tag;
-    void (*close)(void *at);
+    uint32_t (*close)(void *at);
     const char *is_closed;
 };
 
@@ -78,7 +78,7 @@ static struct held *held_of(napi_env env, napi_value value, const struct kind *k
 /* Room for a session or a hub of a size, which nothing is in yet; or NULL, when an error has been raised. */
 static struct held *new_held(napi_env env, const struct kind *kind, size_t size) {
     struct held *held = malloc(sizeof *held);
-    void *at = aligned_alloc(16, (size + 15) & ~(size_t)15);
+    void *at = calloc(1, size);
     if (held == NULL || at == NULL) {
         free(held);
         free(at);

@@ -19,7 +19,7 @@
 //! A session stays on the thread that opened it, so it is not `Send`; open as many sessions in as many threads as you like. The library is
 //! proved to keep to the header, but this crate is only tested.
 
-use std::alloc::{alloc, dealloc, handle_alloc_error, Layout};
+use std::alloc::{alloc_zeroed, dealloc, handle_alloc_error, Layout};
 use std::fmt;
 use std::ptr::{null_mut, NonNull};
 
@@ -201,7 +201,7 @@ impl Session {
 
     fn made(open: impl FnOnce(*mut u8)) -> Result<Session, Error> {
         let layout = Layout::from_size_align(unsafe { raw::editlens_session_size() }, 16).unwrap();
-        let Some(at) = NonNull::new(unsafe { alloc(layout) }) else { handle_alloc_error(layout) };
+        let Some(at) = NonNull::new(unsafe { alloc_zeroed(layout) }) else { handle_alloc_error(layout) };
         open(at.as_ptr());
         let mut session = Session { at, layout, opening: String::new() };
         let answer = unsafe { raw::editlens_session_status(session.at.as_ptr()) };
