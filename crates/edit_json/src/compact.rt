@@ -91,7 +91,7 @@ fn put_inner(out: &mut Writer, name: &str, part: &Name, word: &Word) -> Result<(
     ensures before { out.new.before ≡ out.old.before }
     ensures tokens { OnOk result (out.new.tokens
         ≡ out.old.tokens
-            ++ tokens_of (one_member name.now (array_of_two (string part.now) (tree_of_word (word_tree word.now))))) }
+        ++ tokens_of (one_member name.now (array_of_two (string part.now) (tree_of_word (word_tree word.now))))) }
     ensures whole { OnOk result (numbers_fit (word_tree word.now) ≡ true) }
 {
     open_list(out, name)?;

@@ -49,4 +49,4 @@ module _ {S K D : Type 0} (source : OfSource.Ghosts S) (sink : OfSink.Ghosts K) 
     -- memory ran out; nothing is written to the disk, and the source is not called
     pub refuses : (other : RefusedHub disk old.disk)
         → RefusesHub sink disk (old.sink, old.disk) (new.sink, new.disk) status other.reason
-            × IsUnasked source old.source new.source
+        × IsUnasked source old.source new.source

@@ -48,10 +48,10 @@ pub fn edithub<S: Source, K: Sink, D: Disk>(
 ) -> Status
     ensures init { hub_order_named words.now ≡ Some Init
         → MakesHub S.Source K.Sink D.Disk (devices_of source.old sink.old disk.old)
-            (devices_of source.new sink.new disk.new) result }
+        (devices_of source.new sink.new disk.new) result }
     ensures apply { hub_order_named words.now ≡ Some Apply
         → HubApplies S.Source K.Sink D.Disk (devices_of source.old sink.old disk.old)
-            (devices_of source.new sink.new disk.new) result }
+        (devices_of source.new sink.new disk.new) result }
     ensures show { hub_order_named words.now ≡ Some Show
         → HubShows K.Sink D.Disk (sink.old, disk.old) (sink.new, disk.new) result }
     ensures verify { hub_order_named words.now ≡ Some Verify
@@ -62,7 +62,7 @@ pub fn edithub<S: Source, K: Sink, D: Disk>(
         → HubUndoes count K.Sink D.Disk (sink.old, disk.old) (sink.new, disk.new) result }
     ensures add { hub_order_named words.now ≡ Some Add
         → HubAdds S.Source K.Sink D.Disk (devices_of source.old sink.old disk.old)
-            (devices_of source.new sink.new disk.new) result }
+        (devices_of source.new sink.new disk.new) result }
     ensures usage { hub_order_named words.now ≡ None → GivesHubUsage K.Sink sink.old sink.new result }
     ensures statuses { HubMayEnd (hub_order_named words.now) result }
     ensures leaves { HubLeavesAlone (hub_order_named words.now) (source.old, disk.old) (source.new, disk.new) }

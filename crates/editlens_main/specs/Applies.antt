@@ -29,7 +29,7 @@ module _ {S K D : Type 0} (source : OfSource.Ghosts S) (sink : OfSink.Ghosts K) 
     -- state.
     pub continues : IsFinished status
         → ContinuesCall source sink disk sessions (old.source, old.sink) new store.payloads store.state store.version
-            status
+        status
     -- the state of the store is in its lens's consistency relation, and so is every state of the run
     pub in_step : StoreStaysInStep store.state
     -- At every status: every line that had ended when the source was called last was answered, and its answer written,
@@ -59,4 +59,4 @@ module _ {S K D : Type 0} (source : OfSource.Ghosts S) (sink : OfSink.Ghosts K) 
     -- out; nothing is written to the disk, and the source is not called
     pub refuses : (other : RefusedStore disk old.disk)
         → RefusesStore sink disk (old.sink, old.disk) (new.sink, new.disk) status other.reason
-            × IsUnasked source old.source new.source
+        × IsUnasked source old.source new.source

@@ -85,13 +85,13 @@ pub fn editlens<S: Source, K: Sink, D: Disk>(
     // The commands that make a store, and those over one.
     ensures init { order_named words.now ≡ Some Init
         → MakesStore S.Source K.Sink D.Disk (devices_of source.old sink.old disk.old)
-            (devices_of source.new sink.new disk.new) result }
+        (devices_of source.new sink.new disk.new) result }
     ensures import { order_named words.now ≡ Some Import
         → ImportsStore S.Source K.Sink D.Disk (devices_of source.old sink.old disk.old)
-            (devices_of source.new sink.new disk.new) result }
+        (devices_of source.new sink.new disk.new) result }
     ensures apply { order_named words.now ≡ Some Apply
         → Applies S.Source K.Sink D.Disk (devices_of source.old sink.old disk.old)
-            (devices_of source.new sink.new disk.new) result }
+        (devices_of source.new sink.new disk.new) result }
     ensures show { order_named words.now ≡ Some Show
         → Shows K.Sink D.Disk (sink.old, disk.old) (sink.new, disk.new) result }
     ensures verify { order_named words.now ≡ Some Verify

@@ -62,7 +62,7 @@ pub fn add<S: Source, K: Sink, D: Disk>(
         store.payloads store.state }
     ensures stops { (store : Store D.Disk hubs disk.old)
         → AddEnds S.Source K.Sink D.Disk (devices_of source.old sink.old disk.old)
-            (devices_of source.new sink.new disk.new)
+        (devices_of source.new sink.new disk.new)
         store.payloads store.state result }
     ensures survives { (store : Store D.Disk hubs disk.old)
         → (result ≡ Status.DiskFault) × IsUnopened S.Source K.Sink D.Disk
@@ -111,7 +111,7 @@ fn add_opened<S: Source, K: Sink, D: Disk>(
     ensures ends { (before : List (List ℕ)) → StandsOn D.Disk disk.old log.old before
         → hub_stands_for before ≡ Ok (hub_state_of session.old.hub, None)
         → AddEnds S.Source K.Sink D.Disk (devices_of source.old sink.old disk.old)
-            (devices_of source.new sink.new disk.new)
+        (devices_of source.new sink.new disk.new)
         before (hub_state_of session.old.hub) result }
     ensures statuses { IsStatusAmong init_statuses result }
     ensures source_fault { result ≡ Status.SourceFault → SourceFailed S.Source source.old source.new }

@@ -26,7 +26,7 @@ pub record RefusesViews {K : Type 0} (sink : OfSink.Ghosts K) (old new : K) (ref
     (status : Status) : Type 0 where
   pub ends : (refusal : HubRefusal) → IsRefusalOf refused refusal
       → GivesLine sink old new (hub_refusal_line refusal) ProgramRefused status
-          ⊎ (status ≡ NoMemory) × Gave sink old new []
+      ⊎ (status ≡ NoMemory) × Gave sink old new []
   pub memory : refused ≡ no_memory → (status ≡ NoMemory) × Gave sink old new []
 
 module _ {S : Type 0} (source : OfSource.Ghosts S) (old new : S) where

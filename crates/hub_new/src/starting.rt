@@ -45,7 +45,7 @@ pub fn init_hub<S: Source, K: Sink, D: Disk>(
 ) -> Status
     ensures starts { result ≡ Status.Done
         → StartsHub S.Source K.Sink D.Disk (devices_of source.old sink.old disk.old)
-            (devices_of source.new sink.new disk.new) }
+        (devices_of source.new sink.new disk.new) }
     ensures ends { Ends S.Source K.Sink D.Disk hub_command
         (devices_of source.old sink.old disk.old) (devices_of source.new sink.new disk.new) result }
     ensures at_once { RefusesAtOnce view_programs S.Source source.old source.new result }

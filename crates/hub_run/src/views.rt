@@ -134,7 +134,7 @@ fn view_behind(alloc: Global, before: &[Typed], piece: &ProgramText) -> Result<A
         (λ a. IsViewOf (first_left (map form_tree before.now)) (length before.now) text
         (program_tree a.program) (form_tree a.lens))
         (λ refused.
-                IsRefusedHub (form_of_view (first_left (map form_tree before.now)) (length before.now) text) refused) }
+        IsRefusedHub (form_of_view (first_left (map form_tree before.now)) (length before.now) text) refused) }
     ensures same_left { IfOk result (λ a. HasLeft (first_left (map form_tree before.now)) (form_tree a.lens)) }
     ensures known { IfErr result HasRefusalLine }
 {

@@ -53,6 +53,6 @@ module _ {K D : Type 0} (sink : OfSink.Ghosts K) (disk : OfDisk.Ghosts D) (old n
   abbrev pub UndoEnds : List (List ℕ) → HubUndoing → Status → Type 0
   UndoEnds held u status =
       StoresBehind sink disk old new (λ d1 _. IsOpening disk old.1 d1) held (hub_undo_text u) []
-          (hub_undo_snapshot_text u) status
+      (hub_undo_snapshot_text u) status
       × HubTakesBack held u
       ⊎ EndsUnwritten sink disk old new held status

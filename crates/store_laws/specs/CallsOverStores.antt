@@ -34,11 +34,11 @@ module _ {S K D A : Type 0} (source : OfSource.Ghosts S) (sink : OfSink.Ghosts K
   -- A call of `apply` over a store, as far as the laws need it: what it comes to at its end, and what a crash leaves of
   -- it. These are clauses of the contract of every such call.
   pub record AppliesOver (old new : Devices S K D) (status : Status) (store : Store disk session old.disk) : Type 0
-      where
-    pub continues : IsFinished status → ContinuesCall source sink disk session (old.source, old.sink) new store.payloads
-        store.state store.version status
-    pub survives : (status ≡ DiskFault) × IsUnopened source sink disk old new
-        ⊎ IsSafeCall source sink disk session old new (disk.images old.disk) store.payloads store.state store.version
+    where
+      pub continues : IsFinished status → ContinuesCall source sink disk session (old.source, old.sink) new store.payloads
+          store.state store.version status
+      pub survives : (status ≡ DiskFault) × IsUnopened source sink disk old new
+          ⊎ IsSafeCall source sink disk session old new (disk.images old.disk) store.payloads store.state store.version
 
   -- A call over the store `before` leaves this image, which is a store again.
   pub record LeavesFirstLines (old new : Devices S K D) (before : HeldStore session) (image : List ℕ) : Type 0 where

@@ -165,5 +165,5 @@ module _ {S K D : Type 0} (source : OfSource.Ghosts S) (sink : OfSink.Ghosts K) 
   abbrev pub Completes : Type 0
   Completes = disk.content old.disk ≡ Some [] → IfSome (source.left old.source) (λ bytes. length bytes ≤ MOST_BYTES
       → (SourceFailed source old.source new.source → ⊥) → (SinkFailed sink old.sink new.sink → ⊥)
-          → (DiskFailed disk old.disk new.disk → ⊥)
+      → (DiskFailed disk old.disk new.disk → ⊥)
       → IsComplete command bytes status)

@@ -104,10 +104,10 @@ pub fn import<S: Source, K: Sink, D: Disk>(
 ) -> Status
     ensures imports { result ≡ Status.Done
         → Imports S.Source K.Sink D.Disk (devices_of source.old sink.old disk.old)
-            (devices_of source.new sink.new disk.new) }
+        (devices_of source.new sink.new disk.new) }
     ensures refuses { result ≡ Status.SomeRefused
         → RefusesImport S.Source K.Sink D.Disk (devices_of source.old sink.old disk.old)
-            (devices_of source.new sink.new disk.new) }
+        (devices_of source.new sink.new disk.new) }
     ensures ends { Ends S.Source K.Sink D.Disk import_command
         (devices_of source.old sink.old disk.old) (devices_of source.new sink.new disk.new) result }
     ensures at_once { RefusesAtOnce one_program S.Source source.old source.new result }

@@ -65,7 +65,7 @@ pub fn init<S: Source, K: Sink, D: Disk>(
 ) -> Status
     ensures starts { result ≡ Status.Done
         → Starts S.Source K.Sink D.Disk (devices_of source.old sink.old disk.old)
-            (devices_of source.new sink.new disk.new) }
+        (devices_of source.new sink.new disk.new) }
     ensures ends { Ends S.Source K.Sink D.Disk init_command
         (devices_of source.old sink.old disk.old) (devices_of source.new sink.new disk.new) result }
     ensures at_once { RefusesAtOnce one_program S.Source source.old source.new result }
