@@ -1,6 +1,6 @@
 //! One document that is kept in step with many views.
-use crate::{item_cause, raw, Answer, Error};
-use std::alloc::{alloc_zeroed, dealloc, handle_alloc_error, Layout};
+use crate::{item_cause, raw, room_for, Answer, Error};
+use std::alloc::{dealloc, Layout};
 use std::fmt;
 use std::ptr::{null_mut, NonNull};
 
@@ -67,8 +67,7 @@ impl Hub {
     }
 
     fn made(open: impl FnOnce(*mut u8)) -> Result<Hub, Error> {
-        let layout = Layout::from_size_align(unsafe { raw::editlens_hub_size() }, 16).unwrap();
-        let Some(at) = NonNull::new(unsafe { alloc_zeroed(layout) }) else { handle_alloc_error(layout) };
+        let (at, layout) = room_for(unsafe { raw::editlens_hub_size() });
         open(at.as_ptr());
         let mut hub = Hub { at, layout };
         let answer = unsafe { raw::editlens_hub_status(hub.at.as_ptr()) };

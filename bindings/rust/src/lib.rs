@@ -200,8 +200,7 @@ impl Session {
     }
 
     fn made(open: impl FnOnce(*mut u8)) -> Result<Session, Error> {
-        let layout = Layout::from_size_align(unsafe { raw::editlens_session_size() }, 16).unwrap();
-        let Some(at) = NonNull::new(unsafe { alloc_zeroed(layout) }) else { handle_alloc_error(layout) };
+        let (at, layout) = room_for(unsafe { raw::editlens_session_size() });
         open(at.as_ptr());
         let mut session = Session { at, layout, opening: String::new() };
         let answer = unsafe { raw::editlens_session_status(session.at.as_ptr()) };
@@ -316,6 +315,18 @@ impl Session {
             _ => Error::NoMemory,
         }
     }
+}
+
+/// Memory of 0 for a session or a hub of this size.
+///
+/// # Panics
+///
+/// If the library that is linked has another interface than this crate is written for.
+fn room_for(size: usize) -> (NonNull<u8>, Layout) {
+    assert_eq!(unsafe { raw::editlens_version() }, raw::VERSION, "libeditlens has another interface than this crate");
+    let layout = Layout::from_size_align(size, 16).unwrap();
+    let Some(at) = NonNull::new(unsafe { alloc_zeroed(layout) }) else { handle_alloc_error(layout) };
+    (at, layout)
 }
 
 impl Drop for Session {
