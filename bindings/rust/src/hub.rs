@@ -66,15 +66,15 @@ impl Hub {
         Hub::made(|at| unsafe { raw::editlens_hub_resume(at, programs.as_ptr(), programs.len(), state.as_ptr(), state.len()) })
     }
 
-    fn made(open: impl FnOnce(*mut u8)) -> Result<Hub, Error> {
+    fn made(open: impl FnOnce(*mut u8) -> u32) -> Result<Hub, Error> {
         let (at, layout) = room_for(unsafe { raw::editlens_hub_size() });
-        open(at.as_ptr());
+        let status = open(at.as_ptr());
         let mut hub = Hub { at, layout };
-        let answer = unsafe { raw::editlens_hub_status(hub.at.as_ptr()) };
-        match answer.status {
-            raw::DONE => Ok(hub),
-            _ => Err(hub.error(answer)),
+        if status != raw::DONE {
+            let answer = unsafe { raw::editlens_hub_status(hub.at.as_ptr()) };
+            return Err(hub.error(answer));
         }
+        Ok(hub)
     }
 
     /// Takes a line of a hub's journal, without its line feed.

@@ -199,12 +199,12 @@ impl Session {
         })
     }
 
-    fn made(open: impl FnOnce(*mut u8)) -> Result<Session, Error> {
+    fn made(open: impl FnOnce(*mut u8) -> u32) -> Result<Session, Error> {
         let (at, layout) = room_for(unsafe { raw::editlens_session_size() });
-        open(at.as_ptr());
+        let status = open(at.as_ptr());
         let mut session = Session { at, layout, opening: String::new() };
-        let answer = unsafe { raw::editlens_session_status(session.at.as_ptr()) };
-        if answer.status != raw::DONE {
+        if status != raw::DONE {
+            let answer = unsafe { raw::editlens_session_status(session.at.as_ptr()) };
             return Err(session.error(answer));
         }
         session.opening = session.text();
