@@ -5,8 +5,9 @@
    The library has no state of its own, starts no thread, reads and writes no file, and ends no process. Of the C library it wants malloc,
    realloc, free, memcpy, memmove and memset.
 
-   A word of magic in the memory says whether a session is open there. A call with NULL, with memory where nothing was opened or all is closed,
-   or with a hub in place of a session, does nothing and answers EDITLENS_NOT_OPEN; so does a call that opens, where a session is open already.
+   A word of magic in the memory says whether a session is open there. A call with NULL, with memory where nothing was opened or all is
+   closed, or with a hub in place of a session, does nothing and answers EDITLENS_NOT_OPEN. So does a call that opens where a session is open
+   already.
 
    Threads: a session has one call at a time. Calls may come from different threads where the caller orders them, by a lock or by whatever else
    makes what one thread wrote seen by the next. Sessions share nothing, so there may be any number of them, in threads of their own if wanted.
@@ -39,7 +40,7 @@ extern "C" {
 #define EDITLENS_FULL 10           /* no further item has a number, and nothing changed */
 #define EDITLENS_RECORDS_REFUSED 11 /* there is no session: the records of its log are refused, for the cause beside it */
 #define EDITLENS_NO_CHANGE 12      /* the part is one of the last change, and the last line was not one that was accepted; nothing changed */
-#define EDITLENS_NOT_OPEN 13       /* nothing was done: the address is NULL, or nothing is open there, or, to a call that opens, something is */
+#define EDITLENS_NOT_OPEN 13       /* nothing was done: the address is NULL, or nothing is open there, or a call that opens finds one open */
 
 /* What editlens_session_show can show. */
 #define EDITLENS_STATE 0      /* the three lines `left JSON`, `right JSON` and `complement JSON` */
@@ -115,8 +116,7 @@ uint32_t editlens_version(void);
 size_t editlens_session_size(void);
 
 /* Puts the session over a program, or why there is none, into the memory at `at`. What is returned says which, as the status that
-   editlens_session_status gives; or it is EDITLENS_NOT_OPEN. The text is then the
-   first record of a log. */
+   editlens_session_status gives; or it is EDITLENS_NOT_OPEN, and nothing was done. The text is then the first record of a log. */
 uint32_t editlens_session_open(void *at, const uint8_t *program, size_t program_len);
 
 /* The same for a session whose left document is given, as JSON; the right one is made. The second record of a log is a snapshot then. A text
@@ -156,8 +156,8 @@ struct editlens_answer editlens_session_text(void *at, uint8_t *out, size_t out_
 uint32_t editlens_session_close(void *at);
 
 /* A hub: one document that is kept in step with up to 64 views, as the command `hub` keeps them. A caller has memory for it, of
-   editlens_hub_size() bytes and aligned to 16, and owes what it owes for a session. The statuses and the causes are those of a session, where
-   a hub takes the place of a session and the texts of its programs that of a program; and these: */
+   editlens_hub_size() bytes, aligned to 16 and 0 at first, and owes what it owes for a session. The statuses and the causes are those of a
+   session, where a hub takes the place of a session and the texts of its programs that of a program; and these: */
 
 /* What editlens_hub_show can show. */
 #define EDITLENS_HUB_STATE 0       /* the state lines: `hub JSON`, and `view V JSON` and `complement V JSON` for each view */
@@ -183,7 +183,7 @@ uint32_t editlens_session_close(void *at);
 size_t editlens_hub_size(void);
 
 /* Puts the hub over the programs of its views, or why there is none, into the memory at `at`. The programs are those of a script: one text, with
-   a line `+++` between them. editlens_hub_status says which. The text is the line of a refusal, or empty. */
+   a line `+++` between them. What is returned says which, as for a session. The text is the line of a refusal, or empty. */
 uint32_t editlens_hub_open(void *at, const uint8_t *programs, size_t programs_len);
 
 /* The same for a hub that goes on from a state: JSON texts, with a line feed behind each. They are what editlens_hub_show gave for
@@ -191,7 +191,8 @@ uint32_t editlens_hub_open(void *at, const uint8_t *programs, size_t programs_le
    they are not consistent. Items are numbered from 1 on. */
 uint32_t editlens_hub_resume(void *at, const uint8_t *programs, size_t programs_len, const uint8_t *state, size_t state_len);
 
-/* EDITLENS_DONE if there is a hub; else EDITLENS_PROGRAM_REFUSED, EDITLENS_STATE_REFUSED or EDITLENS_NO_SESSION. */
+/* EDITLENS_DONE if there is a hub; else EDITLENS_PROGRAM_REFUSED, EDITLENS_STATE_REFUSED or EDITLENS_NO_SESSION, and the hub is still to be
+   closed; or EDITLENS_NOT_OPEN. */
 struct editlens_answer editlens_hub_status(void *at);
 
 /* Gives a hub a line of its journal, without its line feed: {"at":"hub","edit":WORD} or {"at":V,"edit":WORD}. The text is then the answer line,

@@ -1,5 +1,5 @@
-/* Calls that a caller must not make, or made once too often: each answers EDITLENS_NOT_OPEN, and nothing changes. Also what a later library may
-   add. The first check that fails is named on the standard error. */
+/* Calls that a caller must not make, or makes once too often: each answers EDITLENS_NOT_OPEN, and nothing changes. Also what a later library
+   may add. The first check that fails is named on the standard error. */
 #include "editlens.h"
 
 #include <stdio.h>
@@ -21,7 +21,8 @@ static const uint8_t HUB_LINE[] = "{\"at\":0,\"edit\":[{\"at\":[\"time\",[{\"set
     } while (0)
 
 static int is_not_open(struct editlens_answer answer) {
-    return answer.status == EDITLENS_NOT_OPEN && answer.cause == 0 && answer.number == 0 && answer.part == 0 && answer.at == 0 && answer.len == 0;
+    return answer.status == EDITLENS_NOT_OPEN && answer.cause == 0 && answer.number == 0 && answer.part == 0 && answer.at == 0
+        && answer.len == 0;
 }
 
 /* Nothing is open at an address: each call says so, and neither the buffer nor the memory changes. */
@@ -124,8 +125,10 @@ static void check_answers(void) {
     CHECK(at != NULL);
     CHECK(editlens_version() == EDITLENS_VERSION);
     CHECK(editlens_session_open(at, TEXT(PROGRAM)) == EDITLENS_DONE);
-    struct editlens_answer answers[] = {editlens_session_status(NULL), editlens_session_status(at), editlens_session_step(at, TEXT(LINE)),
-                                        editlens_session_show(at, EDITLENS_LEFT), editlens_session_text(at, NULL, 0), editlens_hub_status(NULL)};
+    struct editlens_answer answers[] = {
+        editlens_session_status(NULL), editlens_session_status(at), editlens_session_step(at, TEXT(LINE)),
+        editlens_session_show(at, EDITLENS_LEFT), editlens_session_text(at, NULL, 0), editlens_hub_status(NULL),
+    };
     for (size_t i = 0; i < sizeof answers / sizeof *answers; i++) {
         CHECK(answers[i].size == offsetof(struct editlens_answer, size) + sizeof answers[i].size);
         CHECK(answers[i].spare_1 == 0 && answers[i].spare_2 == 0);

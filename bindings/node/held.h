@@ -143,8 +143,11 @@ struct call {
     napi_callback call;
 };
 
-/* The exports of an addon, with these calls. */
+/* The exports of an addon, with these calls; or NULL, when an error has been raised. */
 static napi_value with_calls(napi_env env, napi_value exports, const struct call *calls, size_t count) {
+    if (editlens_version() != EDITLENS_VERSION) {
+        return raise(env, "libeditlens has another interface than this addon is compiled for");
+    }
     for (size_t i = 0; i < count; i++) {
         napi_value function;
         if (napi_create_function(env, calls[i].name, NAPI_AUTO_LENGTH, calls[i].call, NULL, &function) != napi_ok

@@ -63,8 +63,8 @@ class OverCalls(unittest.TestCase):
     def statuses(self, at):
         """What each call answers that wants a session."""
         calls, line = self.calls, b"{}"
-        answers = [calls.editlens_session_status(at), calls.editlens_session_step(at, line, len(line)), calls.editlens_session_show(at, library.STATE)]
-        answers.append(calls.editlens_session_text(at, None, 0))
+        answers = [calls.editlens_session_status(at), calls.editlens_session_step(at, line, len(line))]
+        answers += [calls.editlens_session_show(at, library.STATE), calls.editlens_session_text(at, None, 0)]
         self.assertTrue(all(it.size == library.Answer.size.offset + 8 for it in answers))
         return {*(it.status for it in answers), calls.editlens_session_close(at)}
 
@@ -87,6 +87,11 @@ class OverCalls(unittest.TestCase):
 
     def test_the_interface_has_a_number(self):
         self.assertEqual(self.calls.editlens_version(), library.VERSION)
+
+    def test_a_library_without_this_number_is_another_one(self):
+        with self.assertRaises(library.OtherLibrary) as caught:
+            library.load("libc.so.6")
+        self.assertIn("libc.so.6 has another interface", str(caught.exception))
 
 
 class OverBytes(unittest.TestCase):

@@ -32,6 +32,8 @@ def need_one_name(path):
         raise UnsafeFile(f"{path} is a link: work in the folder that it leads to, since a lock on this one is not seen there")
     if not stat.S_ISREG(found.st_mode):
         raise UnsafeFile(f"{path} is not a regular file")
+    if found.st_nlink == 0:
+        raise UnsafeFile(f"{path} is a mount of a file that is in no folder any more, since another one took its place: mount that one anew")
     if found.st_nlink != 1:
         raise UnsafeFile(
             f"{path} has {found.st_nlink} names (hard links): remove the others, or put a copy in its place, since a program that works by "
