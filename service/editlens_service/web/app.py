@@ -66,6 +66,7 @@ ROUTES = (
     Route("GET", "/hubs/{name}/store", stores.export),
     Route("PUT", "/hubs/{name}/store", stores.bring),
     Route("POST", "/hubs/{name}/edits", edits.mixed),
+    Route("POST", "/hubs/{name}/undo", edits.undo),
     *(
         Route(method, f"/hubs/{{name}}/{place}{rest}", handler)
         for place in ("{hub:hub}", f"views/{VIEW}")
