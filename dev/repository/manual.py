@@ -5,7 +5,7 @@ import re
 
 from . import TOP
 from .pages import read_page, roff, section, table_with
-from .tools import title, tools
+from .tools import named, title
 
 PAGE = os.path.join("docs", "editlens.1")
 SOURCE = "docs/FORMATS.md"
@@ -69,8 +69,8 @@ def synopsis(page):
 
 
 def tool_list(top):
-    """What each tool does."""
-    return listed((f"`{name}`", title(name, top)) for name in tools(top))
+    """What each tool does, and each program of the service."""
+    return listed((f"`{name}`", title(name, top)) for name in named(top))
 
 
 def written(page):

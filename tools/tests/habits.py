@@ -1,6 +1,5 @@
 """The files around the program that say again what the pages say: the manual page, completion, highlighters and the changelog."""
 
-import ast
 import json
 import os
 import re
@@ -16,12 +15,12 @@ from . import Skipped
 
 sys.path.insert(0, os.path.join(TOP, "dev"))
 
+from repository.hints import lacking, untyped  # noqa: E402
 from repository.manual import HUBS, PAGE, manual, version  # noqa: E402
 from repository.pages import read_page, roff, section, table_with  # noqa: E402
-from repository.tools import tools  # noqa: E402
+from repository.tools import named  # noqa: E402
 
 NEEDS_PROGRAM = False
-TYPED = ("answers", "documents", "hub", "hub_store", "json_text", "link", "lock", "parts", "program", "store", "version")
 
 
 def commands(heading="Commands"):
@@ -51,7 +50,7 @@ def completed(*words):
 
 def test_completion_knows_every_command_and_every_tool():
     verbs = {"history", "compact", "back", "backup", "restore", "change-lens"}
-    assert completed("./editlens", "''") == commands() | set(tools()) | verbs | {"hub-store", "--help", "--version"}
+    assert completed("./editlens", "''") == commands() | set(named()) | verbs | {"hub-store", "--help", "--version"}
     assert completed("./edithub", "''") == commands(HUBS) | {"--help", "--version"}
     assert completed("./editlens", "hub-store", "''") == commands(HUBS)
     assert completed("./editlens", "store", "''") == verbs | {"check", "import"}
@@ -67,7 +66,7 @@ def test_the_manual_page_has_no_fault_of_form():
     ran = subprocess.run(["mandoc", "-T", "lint", "-W", "error", PAGE], cwd=TOP, stdout=subprocess.PIPE, stderr=subprocess.STDOUT, text=True, check=False)
     assert (ran.returncode, ran.stdout) == (0, ""), ran.stdout
     page = read_page(PAGE)
-    assert all(f"\\fB{it}".replace("-", "\\-") in page for it in (*tools(), *commands(HUBS))), "a tool or a command is missing"
+    assert all(f"\\fB{it}".replace("-", "\\-") in page for it in (*named(), *commands(HUBS))), "a tool or a command is missing"
 
 
 def test_highlighters_know_every_keyword():
@@ -116,13 +115,10 @@ def test_the_changelog_has_the_version():
 
 
 def test_public_functions_have_hints_of_types():
-    """Those of the modules for whoever keeps documents in Python. docs/check asks mypy whether they are right."""
-    modules = [f"tools/editlens/{it}.py" for it in TYPED] + [f"bindings/python/{it}.py" for it in ("editlens_library", "editlens_hub")]
-    lacking = []
-    for path in modules:
-        for it in ast.walk(ast.parse(read_page(path))):
-            if isinstance(it, ast.FunctionDef) and not it.name.startswith("_"):
-                given = [*it.args.posonlyargs, *it.args.args, *it.args.kwonlyargs]
-                if it.returns is None or any(each.annotation is None for each in given if each.arg not in ("self", "cls")):
-                    lacking.append(f"{path}: {it.name}")
-    assert not lacking, lacking
+    """docs/check asks mypy whether they are right."""
+    assert lacking() == []
+    text = "def a(b: int, *c) -> int: ...\nasync def d(): ...\ndef _e(f): ...\ndef g(h: int) -> int:\n    def i(j): ...\n"
+    text += "class K:\n    def l(self, m): ...\n    def _n(self, o): ...\n    def __p__(self) -> None: ...\n"
+    text += "    @classmethod\n    def q(cls) -> int: ...\nclass _R:\n    def s(self, t): ...\n"
+    text += "class U:\n    class V:\n        def w(self, self_too) -> int: ...\ndef x(self) -> int: ...\n"
+    assert untyped(text) == ["a", "d", "K.l", "U.V.w", "x"]
