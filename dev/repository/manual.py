@@ -5,7 +5,7 @@ import re
 
 from . import TOP
 from .pages import read_page, roff, section, table_with
-from .tools import named, title
+from .tools import named, title, verbs
 
 PAGE = os.path.join("docs", "editlens.1")
 SOURCE = "docs/FORMATS.md"
@@ -73,6 +73,12 @@ def tool_list(top):
     return listed((f"`{name}`", title(name, top)) for name in named(top))
 
 
+def verb_list(top):
+    """What each verb of the tool `store` does."""
+    said = "All but \\fBcheck\\fR and \\fBimport\\fR may be the first word too, as in \\fBeditlens compact\\fR."
+    return f"{said}\n{listed((f'`store {verb}`', about[0].upper() + about[1:] + '.') for verb, about in verbs(top).items())}"
+
+
 def written(page):
     """The lines that commands write."""
     text = section(page, "What is written")
@@ -97,6 +103,7 @@ def manual(top=TOP):
         f".SH COMMANDS\n{commands(page)}",
         f".SH COMMANDS OF EDITHUB\n{commands(page, HUBS)}",
         f".SH TOOLS\nEach says more by \\-\\-help. Installed, it is editlens\\-TOOL too.\n{tool_list(top)}",
+        f".SS Verbs of store\n{verb_list(top)}",
         f".SH OUTPUT\n{written(page)}",
         f".SH EXIT STATUS\n{statuses(page)}",
         ".SH FILES\n.TP\n.B editlens.store\nThe store, in the current folder.\n.TP\n.B edithub.store\nThe store of a hub.",

@@ -1,5 +1,6 @@
 """The tools, which are the executable files of tools/, and the programs of the service, which are called as tools are."""
 
+import ast
 import glob
 import os
 import re
@@ -36,3 +37,12 @@ def title(name: str, top: str = TOP) -> str:
     if not found:
         raise ValueError(f"{path_of(name, '')} does not begin with a line that says what it does")
     return found[1]
+
+
+def verbs(top: str = TOP) -> dict:
+    """The verbs of tools/store, each with what it does."""
+    with open(path_of("store", top), encoding="utf-8") as file:
+        body = ast.parse(file.read()).body
+    table = next(it.value for it in body if isinstance(it, ast.Assign) and ast.unparse(it.targets[0]) == "VERBS")
+    assert isinstance(table, ast.Dict)
+    return {ast.literal_eval(verb): ast.literal_eval(said.elts[0]) for verb, said in zip(table.keys, table.values)}  # type: ignore

@@ -18,7 +18,7 @@ sys.path.insert(0, os.path.join(TOP, "dev"))
 from repository.hints import lacking, untyped  # noqa: E402
 from repository.manual import HUBS, PAGE, manual, version  # noqa: E402
 from repository.pages import read_page, roff, section, table_with  # noqa: E402
-from repository.tools import named  # noqa: E402
+from repository.tools import named, tools, verbs  # noqa: E402
 
 NEEDS_PROGRAM = False
 
@@ -49,15 +49,15 @@ def completed(*words):
 
 
 def test_completion_knows_every_command_and_every_tool():
-    verbs = {"history", "compact", "back", "backup", "restore", "change-lens"}
-    assert completed("./editlens", "''") == commands() | set(named()) | verbs | {"hub-store", "--help", "--version"}
+    of_store, own = set(verbs()), set(verbs()) - {"check", "import"}
+    assert completed("./editlens", "''") == commands() | set(named()) | own | {"hub-store", "--help", "--version"}
     assert completed("./edithub", "''") == commands(HUBS) | {"--help", "--version"}
     assert completed("./editlens", "hub-store", "''") == commands(HUBS)
-    assert completed("./editlens", "store", "''") == verbs | {"check", "import"}
+    assert completed("./editlens", "store", "''") == of_store
     assert completed("./editlens", "un") == {"undo"}
-    of_editlens, of_edithub = read_page("completions/_editlens").split("hub_commands=(")
-    assert set(re.findall(r"(?m)^    '(\w+):", of_editlens)) == commands()
-    assert set(re.findall(r"(?m)^    '(\w+):", of_edithub)) == commands(HUBS)
+    page = read_page("completions/_editlens")
+    lists = {name: set(re.findall(r"'([\w-]+):", body)) for name, body in re.findall(r"(?s)(\w+)=\(\n(.*?)\n\)", page)}
+    assert lists == {"commands": commands(), "hub_commands": commands(HUBS), "verbs": own}, lists
 
 
 def test_the_manual_page_has_no_fault_of_form():
@@ -104,9 +104,11 @@ def test_sentences_are_short():
     assert ran.returncode == 0, ran.stdout
 
 
-def test_the_tools_print_the_version():
-    ran = subprocess.run([sys.executable, os.path.join(TOP, "tools", "fits"), "--version"], stdout=subprocess.PIPE, text=True)
-    assert (ran.returncode, ran.stdout) == (0, f"editlens {version()}\n"), ran
+def test_the_tools_print_the_version_and_what_they_do():
+    for name in tools():
+        for word, wanted in (("--version", f"editlens {version()}\n"), ("--help", f"usage: {name} ")):
+            ran = subprocess.run([sys.executable, os.path.join(TOP, "tools", name), word], stdout=subprocess.PIPE, text=True)
+            assert ran.returncode == 0 and ran.stdout.startswith(wanted), ran
 
 
 def test_the_changelog_has_the_version():
