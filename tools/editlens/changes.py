@@ -14,7 +14,8 @@ class Change:
     """What was done at a place and inside it. `parts` has the same form as the value there, and None where nothing was done."""
 
     def __init__(self, sort: str | None = None) -> None:
-        self.sort, self.parts = sort, None  # type: str | None, Any
+        self.sort = sort
+        self.parts: Any = None
 
     def inside(self, place: Any, make_parts: Callable[[], Any]) -> Change:
         """The change at a place inside."""
