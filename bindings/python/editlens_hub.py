@@ -149,6 +149,6 @@ class Hub:
             at, self.at = self.here(), None
             self.library.editlens_hub_close(at)
 
-    def __del__(self):
+    def __del__(self) -> None:
         if getattr(self, "at", None) is not None and threading.get_ident() == self.thread:
             self.close()

@@ -227,12 +227,12 @@ class Kept:
             at, self.at = self.here(), None
             self.library.editlens_session_close(at)
 
-    def __del__(self):
+    def __del__(self) -> None:
         if getattr(self, "at", None) is not None and threading.get_ident() == self.thread:
             self.close()
 
 
-def __getattr__(name):
+def __getattr__(name: str) -> Any:
     """`Session` is made where it is asked for, since it needs tools/ on the path."""
     if name == "Session":
         from library_session import Session
