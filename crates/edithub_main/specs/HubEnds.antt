@@ -2,8 +2,8 @@
 use Rattle.std.specs.Prelude.{◌≡◌, ◌⊎◌, List, [], ◌∷◌, false, Option, Some, None}
 use Rattle.command_ends.specs.Statuses.{IsStatusAmong, apply_statuses, init_statuses, quiet_statuses}
 use Rattle.command_ends.specs.declared.status.Status.{Status}
-use Rattle.command_ends.specs.declared.status.Status.TheVariants.{Usage, SourceFault, SinkFault, DiskFault}
-use Rattle.lens_io.specs.Calls.{SourceFailed, Gave, GaveFront, SinkFailed, DiskFailed}
+use Rattle.command_ends.specs.declared.status.Status.TheVariants.{Usage, SinkFault}
+use Rattle.lens_io.specs.Calls.{Gave, GaveFront}
 use Rattle.lens_io.specs.declared.disk.Disk as OfDisk
 use Rattle.lens_io.specs.declared.sink.Sink as OfSink
 use Rattle.lens_io.specs.declared.source.Source as OfSource

@@ -1,6 +1,6 @@
 -- What undoing the last changes of the store of a hub comes to, or why the store is refused.
 -- Read it from the end: `hub_refusal_in`, `hub_undo_refusal`, `HubTakesBack`, `hub_undoing`, then `last_hub_changes`.
-use Rattle.std.specs.Prelude.{◌≡◌, ℕ, ◌+◌, ◌-◌, List, [], ◌∷◌, ◌++◌, length, take, drop, nat_lt, if◌then◌else◌, codes}
+use Rattle.std.specs.Prelude.{◌≡◌, ℕ, ◌+◌, ◌-◌, List, [], ◌∷◌, ◌++◌, length, drop, nat_lt, if◌then◌else◌, codes}
 use Rattle.std.specs.Prelude.{decimal, Option, Some, None, option_map, option_and_then, Result, Ok, Err}
 use Rattle.serde_json.specs.Written.{compact_text}
 use Rattle.answer_text.specs.Lines.{tree_line}

@@ -2,7 +2,7 @@
 -- From the end: `event_of_line`, `event_of_text`, `event_of_tree`, and the other way `tree_of_event`.
 use Rattle.std.specs.Prelude.{ℕ, Bool, true, List, Option, Some, None, option_map, option_and_then, Result, Err}
 use Rattle.std.specs.Prelude.{if◌then◌else◌, codes, bytes_eq, ok_or}
-use Rattle.serde_json.specs.Data.{Data, string, array, object, no_items, item, no_members, member}
+use Rattle.serde_json.specs.Data.{Data, string, array, no_items, item}
 use Rattle.texts.specs.declared.side.Side.{Side}
 use Rattle.value_json.specs.Numbers.{count_of, count_tree}
 use Rattle.value_json.specs.Parts.{only_member}

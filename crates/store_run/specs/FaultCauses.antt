@@ -1,5 +1,5 @@
 -- Why a device stopped a call: `FaultsAreCaused`.
-use Rattle.std.specs.Prelude.{◌≡◌, ◌×◌}
+use Rattle.std.specs.Prelude.{◌≡◌}
 use Rattle.lens_io.specs.Calls.{SourceFailed, SinkFailed, DiskFailed}
 use Rattle.lens_io.specs.declared.disk.Disk as OfDisk
 use Rattle.lens_io.specs.declared.sink.Sink as OfSink

@@ -1,7 +1,7 @@
 -- The `ok` lines among some bytes, and what an answer's line is.
 use Rattle.std.specs.Prelude.{◌≡◌, ℕ, ◌==◌, List, [], ◌∷◌, ◌++◌, Bool, true, false, not, ◌&&◌, bytes_eq, codes, filter}
 use Rattle.std.specs.Prelude.{length, take, if◌then◌else◌, is_some}
-use Rattle.std.specs.List.{onto_first, concat}
+use Rattle.std.specs.List.{concat}
 use Rattle.edit_journal.specs.Pieces.{has_no_end}
 use Rattle.script_input.specs.Lines.{cut}
 use Rattle.store_run.specs.declared.session.StoredAnswer.{StoredAnswer}
