@@ -2,13 +2,13 @@
 -- its words name no command.
 use Rattle.std.specs.Prelude.{◌≡◌, ◌⊎◌, [], false, Option}
 use Rattle.command_words.specs.declared.orders.Order.{Order}
-use Rattle.lens_io.specs.Calls.{SourceFailed, Gave, GaveFront, SinkFailed, DiskFailed}
+use Rattle.lens_io.specs.Calls.{Gave, GaveFront}
 use Rattle.lens_io.specs.declared.disk.Disk as OfDisk
 use Rattle.lens_io.specs.declared.sink.Sink as OfSink
 use Rattle.lens_io.specs.declared.source.Source as OfSource
 use Rattle.editlens_main.specs.Commands.{reads_source, uses_disk, usage_line}
 use Rattle.command_ends.specs.declared.status.Status.{Status}
-use Rattle.command_ends.specs.declared.status.Status.TheVariants.{Usage, SourceFault, SinkFault, DiskFault, NoMemory}
+use Rattle.command_ends.specs.declared.status.Status.TheVariants.{Usage, SinkFault, NoMemory}
 
 -- the usage line was written, or a beginning of it and the sink failed; or memory ran out, and nothing was written
 abbrev pub GivesUsage : {K : Type 0} → OfSink.Ghosts K → K → K → Status → Type 0
@@ -21,10 +21,3 @@ GivesUsage sink old new status =
 pub record LeavesAlone {S D : Type 0} (order : Option Order) (old new : S × D) : Type 0 where
   pub unread : reads_source order ≡ false → new.0 ≡ old.0
   pub untouched : uses_disk order ≡ false → new.1 ≡ old.1
-
--- these statuses come only if the device failed
-pub record IsCaused {S K D : Type 0} (source : OfSource.Ghosts S) (sink : OfSink.Ghosts K) (disk : OfDisk.Ghosts D)
-    (old new : S × K × D) (status : Status) : Type 0 where
-  pub source_fault : status ≡ SourceFault → SourceFailed source old.0 new.0
-  pub sink_fault : status ≡ SinkFault → SinkFailed sink old.1 new.1
-  pub disk_fault : status ≡ DiskFault → DiskFailed disk old.2 new.2

@@ -1,7 +1,10 @@
 """The session of a desk, as all its windows share it: edits are taken one after another, and each window sees each change."""
 
+from __future__ import annotations
+
 import threading
 import time
+from typing import Any, Iterable, Sequence
 
 from ..answers import ProgramRefused, Refused, RunEnded
 from ..causes import CAUSES
@@ -33,17 +36,19 @@ class Desk:
 
     can_edit = True
 
-    def __init__(self, keeper, title, notices=()):
+    def __init__(self, keeper: Any, title: str, notices: Iterable[str] = ()) -> None:
         self.keeper, self.title, self.notices = keeper, title, list(notices)
         self.version = self.session = self.signal = 0
-        self.history, self.changes, self.replaced = [], {}, None
-        self.complement = None
+        self.history: list[Any] = []
+        self.changes: dict[str, Any] = {}
+        self.replaced: Any = None
+        self.complement: Any = None
         self.fault, self.death, self.is_closed = None, None, False
         self.news = threading.Condition(threading.RLock())
         self.lens = read_lens(keeper.program)
         threading.Thread(target=self._follow, daemon=True).start()
 
-    def state(self, _step=0, known=(None, None, None)):
+    def state(self, _step: int = 0, known: Sequence[Any] = (None, None, None)) -> dict[str, Any]:
         """Everything that a window draws. Steps are those of a replay.
 
         `known` is what a window has: a session, a version, and the version of its complement. That is left out, and a document of the
@@ -87,7 +92,7 @@ class Desk:
         values = [[list(it), drawn_document(*at_path(ty, document, it))] for it in self.replaced[side]]
         return {"replaced": values, "changes": drawn_changes(self.changes.get(side, ()))}
 
-    def edit(self, base, side, edit):
+    def edit(self, base: Any, side: str, edit: Any) -> dict[str, Any]:
         """Sends an edit of a side that was made for a version."""
         with self.news:
             stale = self._stale(base)
@@ -102,7 +107,7 @@ class Desk:
                 return self._failed(why)
             return self._taken(before, side, edit, answer)
 
-    def undo(self, base):
+    def undo(self, base: Any) -> dict[str, Any]:
         """Takes the last change back."""
         with self.news:
             stale = self._stale(base)
@@ -124,7 +129,7 @@ class Desk:
                 self._went_back(*done)
             return {"ok": True, "version": self.version}
 
-    def redo(self, base):
+    def redo(self, base: Any) -> dict[str, Any]:
         """Makes the change again that was taken back last."""
         with self.news:
             stale = self._stale(base)
@@ -138,11 +143,11 @@ class Desk:
             except (Refused, RunEnded, DocumentsDiffer, OSError) as why:
                 return self._failed(why)
 
-    def check(self, program_text):
+    def check(self, program_text: str) -> dict[str, Any]:
         """What the program says of another lens program."""
         return judged(program_text)
 
-    def load(self, base, program_text):
+    def load(self, base: Any, program_text: str) -> dict[str, Any]:
         """Begins a session of another lens program with the documents as they are."""
         with self.news:
             stale = self._stale(base)
@@ -165,13 +170,13 @@ class Desk:
             self._moved()
             return {"ok": True, "version": self.version, "notices": notices}
 
-    def wait(self, signal, seconds):
+    def wait(self, signal: int, seconds: float) -> int:
         """The signal when there is something newer than another one, or the same one after some seconds."""
         with self.news:
             self.news.wait_for(lambda: self.signal != signal, seconds)
             return self.signal
 
-    def close(self):
+    def close(self) -> None:
         """Ends the session."""
         with self.news:
             self.keeper.close()

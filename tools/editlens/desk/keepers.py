@@ -4,18 +4,22 @@ Both have the program's text, both types, both documents and the complement. `en
 Refused. `undo` takes the last change back. A session in no store can take back one change after another, and `redo` makes them again.
 """
 
-import subprocess
+from __future__ import annotations
 
-from ..answers import Refused, RunEnded
+import subprocess
+from typing import Any, Callable, Iterable
+
+from ..answers import Accepted, Refused, RunEnded
 from ..construct import set_steps, words_of
 from ..documents import misfits
 from ..json_text import read_json, write_json
 from ..lines import lines_of
-from ..load import DoesNotFit, load_words
+from ..load import Disagreement, DoesNotFit, load_words
 from ..open_store import stored_program
 from ..parts import SEPARATOR, program_of
 from ..session import DocumentsDiffer, Session
 from ..store import Store
+from ..types import Ty
 
 
 class RunKeeper:
@@ -23,22 +27,24 @@ class RunKeeper:
 
     is_store = False
 
-    def __init__(self, program_text, path=None):
+    def __init__(self, program_text: str, path: str | None = None) -> None:
         self.program = program_of(program_text)
         self.session = Session(self.program, path)
-        self.lines, self.first, self.undone = [], 0, []
+        self.lines: list[str] = []
+        self.undone: list[str] = []
+        self.first = 0
 
     @property
-    def types(self):
+    def types(self) -> dict[str, Ty]:
         """The types of both sides."""
         return self.session.types
 
     @property
-    def documents(self):
+    def documents(self) -> dict[str, Any]:
         """Both documents."""
         return self.session.documents
 
-    def entry(self, side, edit):
+    def entry(self, side: str, edit: Any) -> Accepted:
         """Sends an edit, and returns its answer."""
         answer = self.session.entry(side, edit)
         self.lines.append(write_json({"side": side, "edit": edit}))
@@ -46,11 +52,11 @@ class RunKeeper:
         return answer
 
     @property
-    def can_undo(self):
+    def can_undo(self) -> bool:
         """Whether an entry came since the session began."""
         return len(self.lines) > self.first
 
-    def undo(self):
+    def undo(self) -> tuple[str, Any]:
         """Goes back to the state before the last entry, and returns its side and its edit. Another run takes the entries before it again."""
         earlier = Session(self.program, self.session.path)
         try:
@@ -66,7 +72,7 @@ class RunKeeper:
         entry = read_json(last)
         return entry["side"], entry["edit"]
 
-    def redo(self):
+    def redo(self) -> tuple[str, Any, Accepted]:
         """Sends the entry again that was taken back last. Returns its side, its edit and its answer."""
         *undone, line = self.undone
         entry = read_json(line)
@@ -74,7 +80,7 @@ class RunKeeper:
         self.undone = undone
         return entry["side"], entry["edit"], answer
 
-    def begin(self, left=None, right=None):
+    def begin(self, left: Any = None, right: Any = None) -> list[Disagreement]:
         """Builds documents that exist, and returns where they disagree. Raises DoesNotFit."""
         disagreements = []
         if right is not None:
@@ -92,17 +98,17 @@ class RunKeeper:
         self.first = len(self.lines)
         return disagreements
 
-    def reader(self):
+    def reader(self) -> Callable[[], Any]:
         """A call that finds the complement of the session as it is now. It may run beside later edits."""
         lines = list(self.lines)
         return lambda: state_after(self.program, lines, self.session.path)["complement"]
 
-    def close(self):
+    def close(self) -> None:
         """Ends the run."""
         self.session.process.stop()
 
 
-def state_after(program, lines, path):
+def state_after(program: str, lines: Iterable[str], path: str) -> dict[str, Any]:
     """What the program says at the end of a run over some lines: both documents and the complement."""
     text = "\n".join([program.rstrip("\n"), SEPARATOR, *lines, ""])
     ran = subprocess.run([path, "run"], input=text.encode(), stdout=subprocess.PIPE, check=False)
@@ -116,33 +122,33 @@ class StoreKeeper:
 
     is_store, can_undo, undone = True, True, ()
 
-    def __init__(self, folder, path=None):
+    def __init__(self, folder: str, path: str | None = None) -> None:
         self.client = Store.open(folder, path)
         self.program = stored_program(self.client.store.file)
 
     @property
-    def types(self):
+    def types(self) -> dict[str, Ty]:
         """The types of both sides."""
         return self.client.types
 
     @property
-    def documents(self):
+    def documents(self) -> dict[str, Any]:
         """Both documents."""
         return self.client.documents
 
-    def entry(self, side, edit):
+    def entry(self, side: str, edit: Any) -> Accepted:
         """Sends an edit, and returns its answer. It is on the disk then."""
         return self.client.entry(side, edit)
 
-    def undo(self):
+    def undo(self) -> dict[str, Any]:
         """Takes the last change back, and returns the edits that did so, by their sides."""
         return dict(zip(("left", "right"), self.client.undo()))
 
-    def reader(self):
+    def reader(self) -> Callable[[], Any]:
         """A call that finds the complement as it is when it runs."""
         return lambda: self.client.store.show()[2]
 
-    def close(self):
+    def close(self) -> None:
         """Gives the store back. Each change is on the disk already."""
         if self.client.is_open:
             self.client.close()
