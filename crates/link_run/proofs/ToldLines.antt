@@ -82,7 +82,7 @@ module _ (holds : DocTree → CompTree → DocTree → Type 0) (left : TyTree) (
   -- ---- what is sealed
 
   named_fits : (side : Side) (s s' : LinkTree) (b : BatchTree) (o : Option BatchTree) → Linked s' → batch_at left right start carried (with_entry side s).made (number_on side s + 1) ≡ o
-      → option_map (λ b. let r : Result (LinkTree × ToldTree) Refusal = Ok (with_entry side s, sealed b) in r) o ≡ Some (Ok (s', sealed b)) → counts_fit b.word ≡ true
+      → option_map (λ b. let r : Result (LinkTree × ToldTree) TurnRefusal = Ok (with_entry side s, sealed b) in r) o ≡ Some (Ok (s', sealed b)) → counts_fit b.word ≡ true
   named_fits side s s' b None k is h = cc
   named_fits side s s' b (Some b') k is h =
       let link_is : with_entry side s ≡ s' = ap (link_in s) h in
@@ -108,13 +108,13 @@ module _ (holds : DocTree → CompTree → DocTree → Type 0) (left : TyTree) (
   edit_not_sealed side w s s' b (Some x) h = drafting_not_sealed side s s' b (edited side (near side left right) (number_on side s) x (draft_on side s) w) cc
 
   sent_not_sealed : (side : Side) (s s' : LinkTree) (b : BatchTree) (o : Option BatchTree)
-      → option_map (λ b. let r : Result (LinkTree × ToldTree) Refusal = Ok (with_packet side b s, packet (length s.packets)) in r) o ≡ Some (Ok (s', sealed b)) → ⊥
+      → option_map (λ b. let r : Result (LinkTree × ToldTree) TurnRefusal = Ok (with_packet side b s, packet (length s.packets)) in r) o ≡ Some (Ok (s', sealed b)) → ⊥
   sent_not_sealed side s s' b None h = cc
   sent_not_sealed side s s' b (Some x) h = let none : None ≡ Some b = ap batch_in h in cc
 
   send_not_sealed : (side : Side) (s s' : LinkTree) (b : BatchTree) → happens left right start carried s (send side) ≡ Some (Ok (s', sealed b)) → ⊥
   send_not_sealed side s s' b h = by_test (nat_eq (last_made side (number_on side s)) 0) h where
-    by_test : (none : Bool) → (if none then Some (Err no_batch) else option_map (λ b. let r : Result (LinkTree × ToldTree) Refusal = Ok (with_packet side b s, packet (length s.packets)) in r) (last_batch left right start carried side s.made (number_on side s))) ≡ Some (Ok (s', sealed b)) → ⊥
+    by_test : (none : Bool) → (if none then Some (Err no_batch) else option_map (λ b. let r : Result (LinkTree × ToldTree) TurnRefusal = Ok (with_packet side b s, packet (length s.packets)) in r) (last_batch left right start carried side s.made (number_on side s))) ≡ Some (Ok (s', sealed b)) → ⊥
     by_test true h = cc
     by_test false h = sent_not_sealed side s s' b (last_batch left right start carried side s.made (number_on side s)) h
 

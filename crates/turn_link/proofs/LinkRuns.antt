@@ -22,7 +22,7 @@ use Rattle.turn_link.proofs.LinkSites.{edits_left, edits_right, refuses_edit_lef
 use Rattle.std.proofs.lemmas.Bool.{leb-true}
 
 -- a named batch is no refusal
-not_named : (o : Option BatchTree) (f : BatchTree → LinkTree × ToldTree) → option_map (λ b. let r : Result (LinkTree × ToldTree) Refusal = Ok (f b) in r) o ≡ Some (Err unfit) → ⊥
+not_named : (o : Option BatchTree) (f : BatchTree → LinkTree × ToldTree) → option_map (λ b. let r : Result (LinkTree × ToldTree) TurnRefusal = Ok (f b) in r) o ≡ Some (Err unfit) → ⊥
 not_named None f is = cc
 not_named (Some b) f is = cc
 

@@ -27,7 +27,7 @@ use Rattle.std.proofs.lemmas.Bool.{eq-eqb}
 same_pair : {A B C : Type 0} {o : Result (A × B) C} {a c : A} {b d : B} → o ≡ Ok (a, b) → o ≡ Ok (c, d) → (a ≡ c) × (b ≡ d)
 same_pair {A} {B} {C} {o} {a} {c} {b} {d} p q = let e : (a, b) ≡ (c, d) = cc in (ap (λ (p : A × B). p.0) e, ap (λ (p : A × B). p.1) e)
 
-same_pair_ok : {A B : Type 0} {p : A × B} {a c : A} {b d : B} → p ≡ (a, b) → (let r : Result (A × B) Refusal = Ok p in r ≡ Ok (c, d)) → (a ≡ c) × (b ≡ d)
+same_pair_ok : {A B : Type 0} {p : A × B} {a c : A} {b d : B} → p ≡ (a, b) → (let r : Result (A × B) TurnRefusal = Ok p in r ≡ Ok (c, d)) → (a ≡ c) × (b ≡ d)
 same_pair_ok {A} {B} {p} {a} {c} {b} {d} is made = let e : (a, b) ≡ (c, d) = cc in (ap (λ (p : A × B). p.0) e, ap (λ (p : A × B). p.1) e)
 
 apart : {A E : Type 0} {o : Result A E} {v : A} {e : E} → o ≡ Ok v → o ≡ Err e → ⊥
