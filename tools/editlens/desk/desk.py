@@ -10,11 +10,13 @@ from ..edits import NoApply, act, form_fault
 from ..json_text import pointer, shown, write_json
 from ..lenses import read_lens
 from ..lock import StoreBusy
+from ..natural import FormFault, read_file
 from ..sentences import sentences
 from ..session import DocumentsDiffer
 from ..store import StoreRefused
 from .complement import remembered
 from .drawing import drawn_changes, drawn_document, drawn_lens, drawn_types
+from .files import NOT_TAKEN, drawn_file, refused_patch
 from .keepers import RunKeeper
 from .loading import carried_over, judged
 from .news import at_path, replaced
@@ -61,6 +63,7 @@ class Desk:
                 "history": self.history,
                 "notices": self.notices,
                 "fault": self.fault,
+                "files": bool(keeper.forms),
                 "undo": {"can": True, "why": "", "now": keeper.can_undo},
                 "redo": {"can": not keeper.is_store, "now": bool(keeper.undone)},
             }
@@ -101,6 +104,28 @@ class Desk:
             except (RunEnded, DocumentsDiffer, OSError, ValueError) as why:
                 return self._failed(why)
             return self._taken(before, side, edit, answer)
+
+    def file(self, side):
+        """The user's file of a side as it is now, with its version, or None where no form file is known."""
+        with self.news:
+            if not self.keeper.forms:
+                return None
+            return {"version": self.version, "session": self.session, **drawn_file(self.keeper.files, side)}
+
+    def patch(self, base, side, text, drop_private=False):
+        """Sends the text of a JSON Patch of a side's file that was made for a version. `drop_private` says that the other side may lose what it alone has."""
+        with self.news:
+            stale = self._stale(base)
+            if stale:
+                return stale
+            before = dict(self.keeper.documents)
+            try:
+                done = self.keeper.patch(side, read_file(text), drop_private)
+            except NOT_TAKEN as why:
+                return refused_patch(why, side, text)
+            except (RunEnded, DocumentsDiffer, OSError) as why:
+                return self._failed(why)
+            return self._taken(before, side, done.word, done.answer)
 
     def undo(self, base):
         """Takes the last change back."""
@@ -151,8 +176,8 @@ class Desk:
             if self.keeper.is_store:
                 return {"ok": False, "sentence": "A store keeps the lens program that it was made with. tools/load --store makes a new store."}
             try:
-                keeper = RunKeeper(program_text)
-                notices = carried_over(keeper, self.keeper.documents)
+                keeper, unread = self._keeper_of(program_text)
+                notices = unread + carried_over(keeper, self.keeper.documents)
             except ProgramRefused as why:
                 return {"ok": False, "sentence": why.said()}
             except (RunEnded, Refused, OSError) as why:
@@ -164,6 +189,13 @@ class Desk:
             self.session += 1
             self._moved()
             return {"ok": True, "version": self.version, "notices": notices}
+
+    def _keeper_of(self, program_text):
+        """A session of a program with the form files, and lines that say why it is without them where they do not fit its types."""
+        try:
+            return RunKeeper(program_text, forms=self.keeper.forms), []
+        except FormFault as why:
+            return RunKeeper(program_text), [f"The form files do not fit this program, so the files are not shown: {it}" for it in str(why).split("\n")]
 
     def wait(self, signal, seconds):
         """The signal when there is something newer than another one, or the same one after some seconds."""

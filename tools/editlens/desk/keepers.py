@@ -1,7 +1,10 @@
 """Where the session of a desk is kept: in a run of the program, which keeps nothing, or in a store.
 
 Both have the program's text, both types, both documents and the complement. `entry` sends an edit of a side; a refused one is raised as
-Refused. `undo` takes the last change back. A session in no store can take back one change after another, and `redo` makes them again.
+Refused. `patch` sends a JSON Patch of the user's file of a side, which `files` has. `undo` takes the last change back. A session in no store
+can take back one change after another, and `redo` makes them again.
+
+`forms` has the form files of the sides that have one, each a tree of JSON.
 """
 
 import subprocess
@@ -23,9 +26,9 @@ class RunKeeper:
 
     is_store = False
 
-    def __init__(self, program_text, path=None):
-        self.program = program_of(program_text)
-        self.session = Session(self.program, path)
+    def __init__(self, program_text, path=None, forms=None):
+        self.program, self.forms = program_of(program_text), forms or {}
+        self.session = Session(self.program, path, forms=self.forms)
         self.lines, self.first, self.undone = [], 0, []
 
     @property
@@ -41,9 +44,23 @@ class RunKeeper:
     def entry(self, side, edit):
         """Sends an edit, and returns its answer."""
         answer = self.session.entry(side, edit)
+        self._took(side, edit)
+        return answer
+
+    @property
+    def files(self):
+        """The users' files of both sides."""
+        return self.session.files
+
+    def patch(self, side, patch, drop_private=False):
+        """Sends a JSON Patch of the file of a side, and returns what came of it, as Patched."""
+        done = self.session.files.patch(side, patch, drop_private)
+        self._took(side, done.word)
+        return done
+
+    def _took(self, side, edit):
         self.lines.append(write_json({"side": side, "edit": edit}))
         self.undone = []
-        return answer
 
     @property
     def can_undo(self):
@@ -52,7 +69,7 @@ class RunKeeper:
 
     def undo(self):
         """Goes back to the state before the last entry, and returns its side and its edit. Another run takes the entries before it again."""
-        earlier = Session(self.program, self.session.path)
+        earlier = Session(self.program, self.session.path, forms=self.forms)
         try:
             for line in self.lines[:-1]:
                 if isinstance(earlier.line(line), Refused):
@@ -60,7 +77,7 @@ class RunKeeper:
         except BaseException:
             earlier.stop()
             raise
-        self.session.process.stop()
+        self.session.stop()
         self.session, last = earlier, self.lines.pop()
         self.undone.append(last)
         entry = read_json(last)
@@ -99,7 +116,7 @@ class RunKeeper:
 
     def close(self):
         """Ends the run."""
-        self.session.process.stop()
+        self.session.stop()
 
 
 def state_after(program, lines, path):
@@ -116,8 +133,8 @@ class StoreKeeper:
 
     is_store, can_undo, undone = True, True, ()
 
-    def __init__(self, folder, path=None):
-        self.client = Store.open(folder, path)
+    def __init__(self, folder, path=None, forms=None):
+        self.client, self.forms = Store.open(folder, path, forms=forms), forms or {}
         self.program = stored_program(self.client.store.file)
 
     @property
@@ -133,6 +150,15 @@ class StoreKeeper:
     def entry(self, side, edit):
         """Sends an edit, and returns its answer. It is on the disk then."""
         return self.client.entry(side, edit)
+
+    @property
+    def files(self):
+        """The users' files of both sides."""
+        return self.client.files
+
+    def patch(self, side, patch, drop_private=False):
+        """Sends a JSON Patch of the file of a side, and returns what came of it, as Patched. It is on the disk then."""
+        return self.client.files.patch(side, patch, drop_private)
 
     def undo(self):
         """Takes the last change back, and returns the edits that did so, by their sides."""

@@ -85,6 +85,7 @@ class Replay:
             "history": [],
             "notices": [],
             "fault": None,
+            "files": False,
             "undo": {"can": False, "why": ""},
         }
 
@@ -98,6 +99,9 @@ class Replay:
                 tree = state_after(self.program, self.lines[:step], self.path)["complement"]
                 self.complements[step] = {"version": step, "tree": tree, "text": write_json(tree), "sentence": remembered(self.lens, tree)}
             return self.complements[step]
+
+    def file(self, _side):
+        """A replay shows documents alone."""
 
     def check(self, program_text):
         """What the program says of another lens program."""

@@ -19,6 +19,9 @@ export function stateAt(step, known) {
   return answered(fetch(`state?session=${known.session}&version=${known.version}&complement=${known.complement?.version ?? ""}`));
 }
 
+/** The user's file of a side, with its version. */
+export const fileOf = (side) => answered(fetch(`file?side=${side}`));
+
 /** A call with a body, whose numbers may be whole numbers of 64 bits. */
 export const call = (name, body) =>
   answered(fetch(name, { method: "POST", headers: { "Content-Type": "application/json" }, body: writeJson(body) }));

@@ -4,6 +4,7 @@ import { call, follow, stateAt } from "./calls.js";
 import { drawDocument } from "./documents.js";
 import { startDrag } from "./dragging.js";
 import { byId, element } from "./elements.js";
+import { FileView } from "./file.js";
 import { completed } from "./news.js";
 import { Steps, drawComplement, drawHistory, drawLast, drawNotices, refusalLines } from "./panels.js";
 import { pathOf, placeAt, typeAt } from "./places.js";
@@ -38,6 +39,7 @@ class Side {
     byHand.hidden = true;
     this.filterInput = byId(name).querySelector(".filter");
     this.filterInput.addEventListener("input", () => this.filterBy(this.filterInput.value));
+    this.file = new FileView(this, desk);
   }
 
   /** Shows what has a text inside alone. */
@@ -87,8 +89,9 @@ class Side {
     this.root.replaceChildren(drawDocument(type, document, this));
     this.isDrawing = false;
     this.drawn = new Map([...this.root.querySelectorAll("[data-place]")].map((it) => [it.dataset.place, it]));
-    this.filterInput.hidden = !CONTAINER.test(JSON.stringify(type));
-    byId(this.side).querySelector(".by-hand").hidden = !this.canEdit;
+    this.hasFilter = CONTAINER.test(JSON.stringify(type));
+    byId(this.side).classList.toggle("fixed", !this.canEdit);
+    this.file.draw(this.desk.state);
     this.markChanges(changes);
     this.showRefusal();
     this.hold(held);
@@ -130,7 +133,9 @@ class Side {
     if (!this.refusal) return;
     const lines = refusalLines(this.refusal);
     const close = element("button", { type: "button", onclick: () => { this.refusal = null; this.redraw(); } }, "Close");
-    const said = element("div", { class: "refused here" }, ...lines, close);
+    const { again } = this.refusal;
+    const anyway = again ? element("button", { type: "button", onclick: again }, "Do it all the same") : null;
+    const said = element("div", { class: "refused here" }, ...lines, ...(anyway ? [anyway] : []), close);
     const { place } = this.refusal;
     if (place === null || place === undefined) box.append(said);
     else {
@@ -319,6 +324,17 @@ class Page {
   async sendNow(side, edit, base, focus) {
     const now = focus.place === undefined ? base : this.rebased(side, base, focus.place, focus.isFree);
     await this.answered(side, await call("edit", { base: new Verbatim(String(now)), side: side.side, edit }), focus);
+  }
+
+  /** Sends a JSON Patch of the file of a side. Where the other side would lose what it alone has, the refusal has a button that does it. */
+  sendPatch(side, text, drop, base) {
+    return this.turns.take("Sending the patch", `${side.side} patch`, async () => {
+      const body = { base: new Verbatim(String(base)), side: side.side, patch: text, drop };
+      const said = await call("patch", body);
+      const again = said.cause === "private-loss" ? () => side.file.send(text, true) : undefined;
+      await this.answered(side, { ...said, again });
+      return said;
+    });
   }
 
   async answered(side, said, focus = {}) {
