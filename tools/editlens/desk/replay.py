@@ -66,7 +66,7 @@ class Replay:
             pass
         return said
 
-    def state(self, step=0, _known=None):
+    def state(self, step=0, _known=None, _view=None):
         """Everything that a window draws at a step."""
         step = max(0, min(step, len(self.lines)))
         done, documents, changes = self.steps[step]

@@ -5,6 +5,7 @@ import { drawDocument } from "./documents.js";
 import { startDrag } from "./dragging.js";
 import { byId, element } from "./elements.js";
 import { FileView } from "./file.js";
+import { callSide, namesOf } from "./names.js";
 import { completed } from "./news.js";
 import { Steps, drawComplement, drawHistory, drawLast, drawNotices, refusalLines } from "./panels.js";
 import { pathOf, placeAt, typeAt } from "./places.js";
@@ -13,6 +14,7 @@ import { ProgramEditor } from "./program.js";
 import { partners } from "./ties.js";
 import { Turns } from "./turns.js";
 import { Versions } from "./versions.js";
+import { Views } from "./views.js";
 import { Verbatim, editAt, pathWithout, pointer, writeJson } from "./words.js";
 
 const SIDES = ["left", "right"];
@@ -49,6 +51,13 @@ class Side {
     this.redraw();
   }
 
+  /** Another document is shown from now on: no place of the one before is known. */
+  forgetPlaces() {
+    this.pages.clear();
+    this.folds.clear();
+    this.endFilter();
+  }
+
   endFilter() {
     this.filterInput.value = this.filter = "";
   }
@@ -56,6 +65,9 @@ class Side {
   get version() { return this.desk.state.version; }
   get canEdit() { return this.desk.state.mode !== "replay"; }
   get otherSide() { return OTHER[this.side]; }
+  get called() { return namesOf(this.desk.state)[this.side]; }
+  get otherCalled() { return namesOf(this.desk.state)[this.otherSide]; }
+  get hasMore() { return (this.desk.state.hub?.views.length ?? 0) > 1; }
 
   /** What belongs to a path in the other document: types and values. What needs a complement that is still to come is left out. */
   tiedTo(path) {
@@ -187,12 +199,14 @@ class Page {
   constructor() {
     this.state = null;
     this.step = null;
+    this.view = null;
     this.refusal = null;
     this.versions = new Versions();
     this.turns = new Turns(() => this.showUndo());
     this.drawn = Promise.resolve();
     this.sides = Object.fromEntries(SIDES.map((it) => [it, new Side(it, this)]));
     this.steps = new Steps((step) => this.go(step));
+    this.views = new Views((view) => this.chooseView(view));
     this.program = new ProgramEditor((text) => call("check", { program: text }), (text) => this.load(text));
     for (const name of ["undo", "redo"]) byId(name).addEventListener("click", () => this.goBack(name));
     document.addEventListener("keydown", (event) => this.pressed(event));
@@ -237,7 +251,7 @@ class Page {
   }
 
   async refreshNow(focus) {
-    const said = await stateAt(this.step, this.state);
+    const said = await stateAt(this.step, this.state, this.view);
     if (said.version === undefined || said.sentence) this.say(said);
     else this.draw(completed(this.state, said), focus);
   }
@@ -247,13 +261,27 @@ class Page {
     return this.refresh();
   }
 
+  /** Shows another view of a hub, behind what is on its way. Where some of that is refused, the view stays, and with it the refusal. */
+  chooseView(view) {
+    const { refusal } = this;
+    return this.turns.take(`Opening view ${view}`, null, async () => {
+      if (this.refusal !== refusal) return;
+      this.forget();
+      this.view = view;
+      this.sides.right.forgetPlaces();
+      await this.refresh();
+    });
+  }
+
   draw(state, focus) {
-    const isSame = this.state !== null && this.state.version === state.version;
+    const isSame = this.state !== null && this.state.version === state.version && this.state.hub?.view === state.hub?.view;
     if (this.state && state.version < this.state.version && state.mode !== "replay") return;
     const isNewer = !isSame && this.state !== null;
     if (!isSame) this.versions.drawn(this.state, state);
     this.state = state;
     byId("title").textContent = state.title;
+    Object.entries(namesOf(state)).forEach(([side, name]) => callSide(side, name));
+    this.views.draw(state);
     this.showUndo();
     if (state.fault) this.say({ cause: "failed", sentence: state.fault });
     if (isNewer) this.forget();
@@ -273,7 +301,7 @@ class Page {
     drawHistory(this.state);
     drawNotices(this.state);
     this.program.show(this.state.program);
-    byId("program").classList.toggle("fixed", this.state.mode !== "session");
+    byId("program").classList.toggle("fixed", this.state.mode !== "session" || Boolean(this.state.hub));
   }
 
   forget() {
@@ -317,13 +345,15 @@ class Page {
     const from = document.activeElement?.dataset.key;
     const isPress = !focus.isFree && focus.base === undefined && focus.place !== undefined;
     const name = isPress ? `${side.side} ${focus.key ?? writeJson(edit)}` : null;
-    return this.turns.take("Sending the edit", name, () => this.sendNow(side, edit, base, { from, ...focus }));
+    const view = this.state.hub?.view;
+    return this.turns.take("Sending the edit", name, () => this.sendNow(side, edit, base, { from, view, ...focus }));
   }
 
   /** Sends an edit. A refusal is shown at its place, and the document is drawn as it is. */
   async sendNow(side, edit, base, focus) {
     const now = focus.place === undefined ? base : this.rebased(side, base, focus.place, focus.isFree);
-    await this.answered(side, await call("edit", { base: new Verbatim(String(now)), side: side.side, edit }), focus);
+    const body = { base: new Verbatim(String(now)), side: side.side, edit, ...(focus.view === undefined ? {} : { view: focus.view }) };
+    await this.answered(side, await call("edit", body), focus);
   }
 
   /** Sends a JSON Patch of the file of a side. Where the other side would lose what it alone has, the refusal has a button that does it. */
