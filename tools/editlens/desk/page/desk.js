@@ -22,12 +22,25 @@ const OTHER = { left: "right", right: "left" };
 const CONTAINER = /"kind":"(list|keyed|tree)"/;
 const MARKS = { set: "changed", new: "new", moved: "moved" };
 
+/** Marks the element of a place, once. */
+function markAt(found, words) {
+  if (found.matches(".folded") && found.querySelector(".mark")) return;
+  const around = found.matches(".row, .entry") ? found : found.closest(".row, .entry");
+  const head = found.matches(".row.compact") ? null : around?.querySelector(":scope > .row-head");
+  const box = head ?? (found.matches(".row, .entry") ? found : null);
+  if (!box || box.querySelector(":scope > .mark")) return;
+  const mark = element("span", { class: "mark" }, words);
+  if (box.matches(".entry")) box.insertBefore(mark, box.querySelector(":scope > .tools, :scope.wide > .control"));
+  else box.append(mark);
+}
+
 /** One side of the page: it draws its document, and finds the places in it. */
 class Side {
   constructor(name, desk) {
     this.side = name;
     this.desk = desk;
-    this.pages = new Map();
+    this.starts = new Map();
+    this.longLists = new Map();
     this.folds = new Map();
     this.drawn = new Map();
     this.filter = "";
@@ -35,6 +48,7 @@ class Side {
     this.root = byId(name).querySelector(".document");
     this.root.addEventListener("pointerover", (event) => desk.pointedAt(this, event.target));
     this.root.addEventListener("pointerleave", () => desk.pointedAt(this, null));
+    this.root.addEventListener("scroll", () => this.scrolled());
     this.root.addEventListener("focusin", (event) => desk.pointedAt(this, event.target));
     const byHand = byId(name).querySelector(".by-hand");
     byHand.querySelector("button").addEventListener("click", () => desk.sendText(this, byHand.querySelector("textarea").value));
@@ -47,13 +61,13 @@ class Side {
   /** Shows what has a text inside alone. */
   filterBy(text) {
     this.filter = text.trim().toLowerCase();
-    this.pages.clear();
+    this.starts.clear();
     this.redraw();
   }
 
   /** Another document is shown from now on: no place of the one before is known. */
   forgetPlaces() {
-    this.pages.clear();
+    this.starts.clear();
     this.folds.clear();
     this.endFilter();
   }
@@ -100,13 +114,33 @@ class Side {
     this.isDrawing = true;
     this.root.replaceChildren(drawDocument(type, document, this));
     this.isDrawing = false;
-    this.drawn = new Map([...this.root.querySelectorAll("[data-place]")].map((it) => [it.dataset.place, it]));
+    for (const it of this.longLists.values()) if (it.list.isConnected) it.makeRoom();
+    this.findPlaces();
     this.hasFilter = CONTAINER.test(JSON.stringify(type));
     byId(this.side).classList.toggle("fixed", !this.canEdit);
     this.file.draw(this.desk.state);
     this.markChanges(changes);
     this.showRefusal();
     this.hold(held);
+  }
+
+  findPlaces() {
+    this.drawn = new Map([...this.root.querySelectorAll("[data-place]")].map((it) => [it.dataset.place, it]));
+  }
+
+  /** Draws what comes into sight of a long list, once before the next picture. */
+  scrolled() {
+    this.scrolling ??= requestAnimationFrame(() => {
+      this.scrolling = undefined;
+      if ([...this.longLists.values()].filter((it) => it.follow(this.root)).length) this.drewMore();
+    });
+  }
+
+  /** More of a long list is drawn than before. */
+  drewMore() {
+    this.findPlaces();
+    this.markChanges(this.desk.state.sides[this.side].changes);
+    if (this.refusal && !byId(this.side).querySelector(".refused.here")) this.showRefusal();
   }
 
   /** The element of a place, or of the nearest one around it that is drawn. */
@@ -129,13 +163,7 @@ class Side {
   markChanges(changes) {
     for (const [place, sort] of changes) {
       const found = this.shown(place);
-      if (found?.matches(".folded") && found.querySelector(".mark")) continue;
-      const mark = element("span", { class: "mark" }, MARKS[sort]);
-      const head = found?.querySelector(":scope > .row-head");
-      if (found?.matches(".row.compact")) found.append(mark);
-      else if (head) head.append(mark);
-      else if (found?.matches(".entry")) found.insertBefore(mark, found.querySelector(":scope > .tools, :scope.wide > .control"));
-      else found?.closest(".row, .entry")?.querySelector(":scope > .row-head")?.append(mark);
+      if (found) markAt(found, MARKS[sort]);
     }
   }
 
@@ -252,6 +280,7 @@ class Page {
 
   async refreshNow(focus) {
     const said = await stateAt(this.step, this.state, this.view);
+    this.answeredAt = performance.now();
     if (said.version === undefined || said.sentence) this.say(said);
     else this.draw(completed(this.state, said), focus);
   }
@@ -291,8 +320,7 @@ class Page {
     this.drawPanels();
     if (focus) focus.side.focus(focus);
     this.pointedAt(this.pointedSide, this.pointedElement);
-    // A script that measures the page reads when a version was painted.
-    if (!isSame) requestAnimationFrame(() => setTimeout(() => performance.mark("painted")));
+    if (!isSame) measured(this.answeredAt, state.version);
   }
 
   drawPanels() {
@@ -436,6 +464,14 @@ class Page {
     const found = others.map((it) => this.sides[side.otherSide].shown(it)).filter(Boolean);
     if (found.length) [place, ...found].forEach((it) => it.closest(".entry, .row")?.classList.add("tied"));
   }
+}
+
+/** Notes when a version was painted, and how long that took from its answer on, for a script that measures the page. */
+function measured(start, version) {
+  requestAnimationFrame(() => setTimeout(() => {
+    performance.mark("painted");
+    performance.measure("drawing", { start, end: performance.now(), detail: { version } });
+  }));
 }
 
 window.page = new Page();
