@@ -114,7 +114,7 @@ class Side {
     this.isDrawing = true;
     this.root.replaceChildren(drawDocument(type, document, this));
     this.isDrawing = false;
-    for (const it of this.longLists.values()) if (it.list.isConnected) it.makeRoom();
+    for (const it of this.longLists.values()) it.measure();
     this.findPlaces();
     this.hasFilter = CONTAINER.test(JSON.stringify(type));
     byId(this.side).classList.toggle("fixed", !this.canEdit);

@@ -19,7 +19,7 @@ export function fillList(list, count, draw, name, view) {
     for (let number = 0; number < count; number += 1) list.append(draw(number));
     return;
   }
-  const height = view.longLists.get(name)?.height ?? GUESS;
+  const height = view.longLists.get(name)?.height ?? null;
   view.longLists.set(name, new LongList(list, count, draw, height, name, view));
 }
 
@@ -41,7 +41,7 @@ export function endButtons(count, place, name, keyOf, view) {
 /** A list of which a part is drawn. In place of what is above and below, there is room of its height. */
 class LongList {
   constructor(list, count, draw, height, name, view) {
-    Object.assign(this, { list, count, draw, height, name, view });
+    Object.assign(this, { list, count, draw, name, view, height: height ?? GUESS, isMeasured: height !== null });
     this.made = new Map();
     [this.above, this.below] = [gap(), gap()];
     list.append(this.above, this.below);
@@ -73,6 +73,13 @@ class LongList {
     entry.setAttribute("aria-setsize", this.count);
     this.made.set(number, entry);
     return entry;
+  }
+
+  /** Looks how high the contents are when the list is first in the page. Later that changes only where the scroll is set anew with it. */
+  measure() {
+    if (this.isMeasured || !this.list.isConnected) return;
+    this.isMeasured = true;
+    this.makeRoom();
   }
 
   makeRoom() {
