@@ -24,7 +24,7 @@ static double seconds(clockid_t clock) {
 }
 
 static void *opened(void) {
-    void *session = aligned_alloc(16, (editlens_session_size() + 15) & ~(size_t)15);
+    void *session = calloc(1, editlens_session_size());
     if (session == NULL) {
         exit(2);
     }

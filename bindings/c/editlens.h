@@ -1,8 +1,13 @@
 /* editlens as a library: a session that keeps two JSON documents in step, for programs in C and whatever calls C.
 
-   docs/EMBEDDING.md has an example. A caller has memory for a session, of editlens_session_size() bytes and aligned to 16, opens a session in
-   it, and closes it at the end; also one that is refused. The memory stays where it is in between. The library has no state of its own, starts
-   no thread, reads and writes no file, and ends no process. Of the C library it wants malloc, realloc, free, memcpy, memmove and memset.
+   docs/EMBEDDING.md has an example. A caller has memory for a session, of editlens_session_size() bytes, aligned to 16 and 0 at first, opens a
+   session in it, and closes it at the end; also one that is refused. The memory stays where it is in between, and only the library changes it.
+   The library has no state of its own, starts no thread, reads and writes no file, and ends no process. Of the C library it wants malloc,
+   realloc, free, memcpy, memmove and memset.
+
+   A word of magic in the memory says whether a session is open there. A call with NULL, with memory where nothing was opened or all is
+   closed, or with a hub in place of a session, does nothing and answers EDITLENS_NOT_OPEN. So does a call that opens where a session is open
+   already.
 
    Threads: a session has one call at a time. Calls may come from different threads where the caller orders them, by a lock or by whatever else
    makes what one thread wrote seen by the next. Sessions share nothing, so there may be any number of them, in threads of their own if wanted.
@@ -18,6 +23,9 @@
 extern "C" {
 #endif
 
+/* The number of this interface. It is raised where a caller has to be compiled anew; editlens_version() is that of the library. */
+#define EDITLENS_VERSION 2
+
 /* How a call ended: the member `status` of its answer. */
 #define EDITLENS_DONE 0            /* the call did what it was asked; the item was accepted */
 #define EDITLENS_BLANK 1           /* the line is blank, and so it is not an item */
@@ -32,6 +40,7 @@ extern "C" {
 #define EDITLENS_FULL 10           /* no further item has a number, and nothing changed */
 #define EDITLENS_RECORDS_REFUSED 11 /* there is no session: the records of its log are refused, for the cause beside it */
 #define EDITLENS_NO_CHANGE 12      /* the part is one of the last change, and the last line was not one that was accepted; nothing changed */
+#define EDITLENS_NOT_OPEN 13       /* nothing was done: the address is NULL, or nothing is open there, or a call that opens finds one open */
 
 /* What editlens_session_show can show. */
 #define EDITLENS_STATE 0      /* the three lines `left JSON`, `right JSON` and `complement JSON` */
@@ -95,35 +104,41 @@ struct editlens_answer {
     uint64_t part;   /* the number, from 0, of the entry of a group that does not apply, or 0 */
     uint64_t at;     /* the number, from 0, of the first primitive that fails; or an offset in a program; or the number of a record; or 0 */
     size_t len;      /* how many bytes the text has that answers the last call */
+    uint64_t size;   /* how many bytes of the answer have a meaning: a later member has one if it lies within them */
+    uint64_t spare_1; /* 0: room for later members */
+    uint64_t spare_2; /* 0 */
 };
+
+/* EDITLENS_VERSION of the library. */
+uint32_t editlens_version(void);
 
 /* How many bytes a session takes. */
 size_t editlens_session_size(void);
 
-/* Puts the session over a program, or why there is none, into the memory at `at`. editlens_session_status says which. The text is then the
-   first record of a log. */
-void editlens_session_open(void *at, const uint8_t *program, size_t program_len);
+/* Puts the session over a program, or why there is none, into the memory at `at`. What is returned says which, as the status that
+   editlens_session_status gives; or it is EDITLENS_NOT_OPEN, and nothing was done. The text is then the first record of a log. */
+uint32_t editlens_session_open(void *at, const uint8_t *program, size_t program_len);
 
 /* The same for a session whose left document is given, as JSON; the right one is made. The second record of a log is a snapshot then. A text
    that is not of a document of the left type is refused as a state is: EDITLENS_STATE_REFUSED with EDITLENS_NOT_LEFT. */
-void editlens_session_import_left(void *at, const uint8_t *program, size_t program_len, const uint8_t *document, size_t document_len);
+uint32_t editlens_session_import_left(void *at, const uint8_t *program, size_t program_len, const uint8_t *document, size_t document_len);
 
 /* The same for the right document: EDITLENS_NOT_RIGHT. */
-void editlens_session_import_right(void *at, const uint8_t *program, size_t program_len, const uint8_t *document, size_t document_len);
+uint32_t editlens_session_import_right(void *at, const uint8_t *program, size_t program_len, const uint8_t *document, size_t document_len);
 
 /* The same for a session that goes on from a state: the texts that editlens_session_show gave for EDITLENS_LEFT, EDITLENS_COMPLEMENT and
    EDITLENS_RIGHT, or others. They are refused if they are not consistent. Items are numbered from 1 on. The second record of a log is a
    snapshot then. */
-void editlens_session_resume(void *at, const uint8_t *program, size_t program_len, const uint8_t *left, size_t left_len,
+uint32_t editlens_session_resume(void *at, const uint8_t *program, size_t program_len, const uint8_t *left, size_t left_len,
                              const uint8_t *complement, size_t complement_len, const uint8_t *right, size_t right_len);
 
 /* The session for which the records of a log stand: the first record, and behind it changes and snapshots. A line feed ends each of them; no
    record that the library makes has one in it. Items are numbered from 1 on. The text is empty; or it is the record that the log of an old
    store has to get before any other. */
-void editlens_session_reopen(void *at, const uint8_t *records, size_t records_len);
+uint32_t editlens_session_reopen(void *at, const uint8_t *records, size_t records_len);
 
 /* EDITLENS_DONE if there is a session; else EDITLENS_PROGRAM_REFUSED, EDITLENS_STATE_REFUSED, EDITLENS_RECORDS_REFUSED or
-   EDITLENS_NO_SESSION. */
+   EDITLENS_NO_SESSION, and the session is still to be closed; or EDITLENS_NOT_OPEN. */
 struct editlens_answer editlens_session_status(void *at);
 
 /* Gives a session a line of a journal, without its line feed. The text is then the answer line, with one. */
@@ -137,12 +152,12 @@ struct editlens_answer editlens_session_show(void *at, uint32_t part);
    EDITLENS_SMALL_BUFFER if it has more than `out_len` bytes; `len` then says how many are wanted. The text can be asked for again. */
 struct editlens_answer editlens_session_text(void *at, uint8_t *out, size_t out_len);
 
-/* Ends a session, and gives back all that it holds but the memory at `at`, which is the caller's. */
-void editlens_session_close(void *at);
+/* Ends a session, and gives back all that it holds but the memory at `at`, which is the caller's. EDITLENS_DONE or EDITLENS_NOT_OPEN. */
+uint32_t editlens_session_close(void *at);
 
 /* A hub: one document that is kept in step with up to 64 views, as the command `hub` keeps them. A caller has memory for it, of
-   editlens_hub_size() bytes and aligned to 16, and owes what it owes for a session. The statuses and the causes are those of a session, where
-   a hub takes the place of a session and the texts of its programs that of a program; and these: */
+   editlens_hub_size() bytes, aligned to 16 and 0 at first, and owes what it owes for a session. The statuses and the causes are those of a
+   session, where a hub takes the place of a session and the texts of its programs that of a program; and these: */
 
 /* What editlens_hub_show can show. */
 #define EDITLENS_HUB_STATE 0       /* the state lines: `hub JSON`, and `view V JSON` and `complement V JSON` for each view */
@@ -168,15 +183,16 @@ void editlens_session_close(void *at);
 size_t editlens_hub_size(void);
 
 /* Puts the hub over the programs of its views, or why there is none, into the memory at `at`. The programs are those of a script: one text, with
-   a line `+++` between them. editlens_hub_status says which. The text is the line of a refusal, or empty. */
-void editlens_hub_open(void *at, const uint8_t *programs, size_t programs_len);
+   a line `+++` between them. What is returned says which, as for a session. The text is the line of a refusal, or empty. */
+uint32_t editlens_hub_open(void *at, const uint8_t *programs, size_t programs_len);
 
 /* The same for a hub that goes on from a state: JSON texts, with a line feed behind each. They are what editlens_hub_show gave for
    EDITLENS_HUB_DOCUMENT, and then for each view in order for EDITLENS_VIEW_DOCUMENT and EDITLENS_VIEW_COMPLEMENT, or others. They are refused if
    they are not consistent. Items are numbered from 1 on. */
-void editlens_hub_resume(void *at, const uint8_t *programs, size_t programs_len, const uint8_t *state, size_t state_len);
+uint32_t editlens_hub_resume(void *at, const uint8_t *programs, size_t programs_len, const uint8_t *state, size_t state_len);
 
-/* EDITLENS_DONE if there is a hub; else EDITLENS_PROGRAM_REFUSED, EDITLENS_STATE_REFUSED or EDITLENS_NO_SESSION. */
+/* EDITLENS_DONE if there is a hub; else EDITLENS_PROGRAM_REFUSED, EDITLENS_STATE_REFUSED or EDITLENS_NO_SESSION, and the hub is still to be
+   closed; or EDITLENS_NOT_OPEN. */
 struct editlens_answer editlens_hub_status(void *at);
 
 /* Gives a hub a line of its journal, without its line feed: {"at":"hub","edit":WORD} or {"at":V,"edit":WORD}. The text is then the answer line,
@@ -189,8 +205,8 @@ struct editlens_answer editlens_hub_show(void *at, uint32_t part, uint64_t view)
 /* Writes the text that answers the last call to the head of `out`, as editlens_session_text does. */
 struct editlens_answer editlens_hub_text(void *at, uint8_t *out, size_t out_len);
 
-/* Ends a hub, and gives back all that it holds but the memory at `at`, which is the caller's. */
-void editlens_hub_close(void *at);
+/* Ends a hub, and gives back all that it holds but the memory at `at`, which is the caller's. EDITLENS_DONE or EDITLENS_NOT_OPEN. */
+uint32_t editlens_hub_close(void *at);
 
 #ifdef __cplusplus
 }

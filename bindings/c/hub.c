@@ -138,7 +138,7 @@ int main(int words, char **word) {
             script = realloc(script, room *= 2);
         }
     }
-    void *hub = aligned_alloc(16, (editlens_hub_size() + 15) & ~(size_t)15);
+    void *hub = calloc(1, editlens_hub_size());
     if (script == NULL || hub == NULL) {
         return 94;
     }

@@ -125,7 +125,7 @@ int main(int words, char **word) {
             script = realloc(script, room *= 2);
         }
     }
-    void *session = aligned_alloc(16, (editlens_session_size() + 15) & ~(size_t)15);
+    void *session = calloc(1, editlens_session_size());
     if (script == NULL || session == NULL) {
         return 95;
     }

@@ -36,7 +36,7 @@ static int is_enough(size_t size) {
     if (child == 0) {
         char *stack = mmap(NULL, size + PAGE, PROT_READ | PROT_WRITE, MAP_PRIVATE | MAP_ANONYMOUS, -1, 0);
         mprotect(stack, PAGE, PROT_NONE);
-        void *session = aligned_alloc(16, (editlens_session_size() + 15) & ~(size_t)15);
+        void *session = calloc(1, editlens_session_size());
         pthread_attr_t how;
         pthread_t thread;
         pthread_attr_init(&how);

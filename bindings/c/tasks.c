@@ -23,13 +23,11 @@ static void print_text(void *session) {
 }
 
 int main(void) {
-    size_t size = (editlens_session_size() + 15) & ~(size_t)15;
-    void *session = aligned_alloc(16, size);
-    if (session == NULL) {
+    void *session = calloc(1, editlens_session_size());
+    if (session == NULL || editlens_version() != EDITLENS_VERSION) {
         return 1;
     }
-    editlens_session_open(session, (const uint8_t *)program, strlen(program));
-    if (editlens_session_status(session).status != EDITLENS_DONE) {
+    if (editlens_session_open(session, (const uint8_t *)program, strlen(program)) != EDITLENS_DONE) {
         print_text(session);
     } else {
         for (size_t i = 0; i < sizeof lines / sizeof *lines; i++) {

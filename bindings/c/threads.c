@@ -23,11 +23,8 @@ __attribute__((weak)) void *__tsan_memcpy(void *to, const void *from, size_t len
 __attribute__((weak)) void *__tsan_memmove(void *to, const void *from, size_t len) { return memmove(to, from, len); }
 
 static void *opened(void) {
-    size_t size = (editlens_session_size() + 15) & ~(size_t)15;
-    void *session = aligned_alloc(16, size);
-    memset(session, 0, size);
-    editlens_session_open(session, (const uint8_t *)PROGRAM, sizeof PROGRAM - 1);
-    if (editlens_session_status(session).status != EDITLENS_DONE) {
+    void *session = calloc(1, editlens_session_size());
+    if (editlens_session_open(session, (const uint8_t *)PROGRAM, sizeof PROGRAM - 1) != EDITLENS_DONE) {
         exit(99);
     }
     return session;

@@ -11,7 +11,7 @@
 /* A session or a hub: the tag of its values, how it is closed, and what is said of one that is closed. */
 struct kind {
     napi_type_tag tag;
-    void (*close)(void *at);
+    uint32_t (*close)(void *at);
     const char *is_closed;
 };
 
@@ -78,7 +78,7 @@ static struct held *held_of(napi_env env, napi_value value, const struct kind *k
 /* Room for a session or a hub of a size, which nothing is in yet; or NULL, when an error has been raised. */
 static struct held *new_held(napi_env env, const struct kind *kind, size_t size) {
     struct held *held = malloc(sizeof *held);
-    void *at = aligned_alloc(16, (size + 15) & ~(size_t)15);
+    void *at = calloc(1, size);
     if (held == NULL || at == NULL) {
         free(held);
         free(at);
@@ -143,8 +143,11 @@ struct call {
     napi_callback call;
 };
 
-/* The exports of an addon, with these calls. */
+/* The exports of an addon, with these calls; or NULL, when an error has been raised. */
 static napi_value with_calls(napi_env env, napi_value exports, const struct call *calls, size_t count) {
+    if (editlens_version() != EDITLENS_VERSION) {
+        return raise(env, "libeditlens has another interface than this addon is compiled for");
+    }
     for (size_t i = 0; i < count; i++) {
         napi_value function;
         if (napi_create_function(env, calls[i].name, NAPI_AUTO_LENGTH, calls[i].call, NULL, &function) != napi_ok

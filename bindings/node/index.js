@@ -4,7 +4,7 @@
 const addon = require(process.env.EDITLENS_ADDON || './editlens.node');
 
 const STATUS = ['done', 'blank', 'refused', 'program-refused', 'state-refused', 'no-session', 'no-memory', 'small-buffer', 'line-feed', 'unknown-part', 'full',
-  'records-refused', 'no-change'];
+  'records-refused', 'no-change', 'not-open'];
 const PARTS = {state: 0, left: 1, complement: 2, right: 3, leftType: 4, rightType: 5, snapshot: 6, change: 7, undoLeft: 8, undoRight: 9};
 
 /** A call that did not do what it was asked. `status` is a name, and `cause`, `part` and `at` are the numbers of editlens.h. */

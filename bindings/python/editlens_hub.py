@@ -37,13 +37,13 @@ def load_hubs(path: str | None = None) -> ctypes.CDLL:
         at, text, size = ctypes.c_void_p, ctypes.c_char_p, ctypes.c_size_t
         for name, given, answer in (
             ("size", [], size),
-            ("open", [at, text, size], None),
-            ("resume", [at, *[text, size] * 2], None),
+            ("open", [at, text, size], ctypes.c_uint32),
+            ("resume", [at, *[text, size] * 2], ctypes.c_uint32),
             ("status", [at], Answer),
             ("step", [at, text, size], Answer),
             ("show", [at, ctypes.c_uint32, ctypes.c_uint64], Answer),
             ("text", [at, text, size], Answer),
-            ("close", [at], None),
+            ("close", [at], ctypes.c_uint32),
         ):
             function = getattr(library, f"editlens_hub_{name}")
             function.argtypes, function.restype = given, answer
@@ -149,6 +149,6 @@ class Hub:
             at, self.at = self.here(), None
             self.library.editlens_hub_close(at)
 
-    def __del__(self):
+    def __del__(self) -> None:
         if getattr(self, "at", None) is not None and threading.get_ident() == self.thread:
             self.close()

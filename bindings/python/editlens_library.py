@@ -20,7 +20,9 @@ from typing import Any, Iterable
 
 HERE = os.path.dirname(os.path.abspath(__file__))
 
-DONE, BLANK, REFUSED, PROGRAM_REFUSED, STATE_REFUSED, NO_SESSION, NO_MEMORY, SMALL_BUFFER, LINE_FEED, UNKNOWN_PART, FULL, RECORDS_REFUSED, NO_CHANGE = range(13)
+DONE, BLANK, REFUSED, PROGRAM_REFUSED, STATE_REFUSED, NO_SESSION, NO_MEMORY, SMALL_BUFFER, LINE_FEED, UNKNOWN_PART = range(10)
+FULL, RECORDS_REFUSED, NO_CHANGE, NOT_OPEN = range(10, 14)
+VERSION = 2
 STATE, LEFT, COMPLEMENT, RIGHT, LEFT_TYPE, RIGHT_TYPE, SNAPSHOT, CHANGE, UNDO_LEFT, UNDO_RIGHT = range(10)
 NOT_LEFT, NOT_COMPLEMENT, NOT_RIGHT, NOT_CONSISTENT = range(41, 45)
 BAD_RECORD, RECORD_NOT_CONSISTENT = range(51, 53)
@@ -45,6 +47,9 @@ class Answer(ctypes.Structure):
         ("part", ctypes.c_uint64),
         ("at", ctypes.c_uint64),
         ("len", ctypes.c_size_t),
+        ("size", ctypes.c_uint64),
+        ("spare_1", ctypes.c_uint64),
+        ("spare_2", ctypes.c_uint64),
     ]
 
 
@@ -53,6 +58,13 @@ class NoLibrary(Exception):
 
     def __init__(self) -> None:
         super().__init__("there is no libeditlens.so: run ./build --library, or name one by EDITLENS_LIBRARY_PATH")
+
+
+class OtherLibrary(Exception):
+    """The library has another interface than this module is written for."""
+
+    def __init__(self, path: str) -> None:
+        super().__init__(f"{path} has another interface than version {VERSION} of it: build it again")
 
 
 class Unopened(Exception):
@@ -85,19 +97,21 @@ def load(path: str | None = None) -> ctypes.CDLL:
     path = path or find_library()
     if path not in _loaded:
         library = ctypes.CDLL(path)
+        if not hasattr(library, "editlens_version") or library.editlens_version() != VERSION:
+            raise OtherLibrary(path)
         at, text, size = ctypes.c_void_p, ctypes.c_char_p, ctypes.c_size_t
         for name, given, answer in (
             ("size", [], size),
-            ("open", [at, text, size], None),
-            ("import_left", [at, *[text, size] * 2], None),
-            ("import_right", [at, *[text, size] * 2], None),
-            ("resume", [at, *[text, size] * 4], None),
-            ("reopen", [at, text, size], None),
+            ("open", [at, text, size], ctypes.c_uint32),
+            ("import_left", [at, *[text, size] * 2], ctypes.c_uint32),
+            ("import_right", [at, *[text, size] * 2], ctypes.c_uint32),
+            ("resume", [at, *[text, size] * 4], ctypes.c_uint32),
+            ("reopen", [at, text, size], ctypes.c_uint32),
             ("status", [at], Answer),
             ("step", [at, text, size], Answer),
             ("show", [at, ctypes.c_uint32], Answer),
             ("text", [at, text, size], Answer),
-            ("close", [at], None),
+            ("close", [at], ctypes.c_uint32),
         ):
             function = getattr(library, f"editlens_session_{name}")
             function.argtypes, function.restype = given, answer
@@ -202,6 +216,7 @@ class Kept:
                 UNKNOWN_PART: "this is not a part of the state",
                 FULL: "no further item has a number",
                 NO_CHANGE: "the last line was not a change that was accepted",
+                NOT_OPEN: "the session is closed",
             }
             raise ValueError(reasons[answer.status])
         return answer
@@ -212,12 +227,12 @@ class Kept:
             at, self.at = self.here(), None
             self.library.editlens_session_close(at)
 
-    def __del__(self):
+    def __del__(self) -> None:
         if getattr(self, "at", None) is not None and threading.get_ident() == self.thread:
             self.close()
 
 
-def __getattr__(name):
+def __getattr__(name: str) -> Any:
     """`Session` is made where it is asked for, since it needs tools/ on the path."""
     if name == "Session":
         from library_session import Session

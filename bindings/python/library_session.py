@@ -1,8 +1,12 @@
 """The class of tools/editlens/session.py over the library: `from editlens_library import Session`. It needs tools/ on the path."""
 
-import threading
+from __future__ import annotations
 
-from editlens.answers import Accepted, RunEnded, read_answer
+import threading
+from types import TracebackType
+from typing import Any, Iterable
+
+from editlens.answers import Accepted, Refused, RunEnded, read_answer
 from editlens.checked import program_refused
 from editlens.json_text import read_json
 from editlens.natural.files import Files
@@ -24,7 +28,14 @@ class Session(Editing):
     documents are those of the library, and not followed by a second implementation. `path` is that of the library.
     """
 
-    def __init__(self, program_text, path=None, timeout=None, forms=None, state=None):
+    def __init__(
+        self,
+        program_text: str,
+        path: str | None = None,
+        timeout: float | None = None,
+        forms: dict[str, Any] | None = None,
+        state: Iterable[bytes] | None = None,
+    ) -> None:
         self.path, self.program, self.lock = path, program_of(program_text), threading.RLock()
         try:
             self.kept = library.Kept(self.program.encode(), state, path)
@@ -42,18 +53,18 @@ class Session(Editing):
     def _type(self, part):
         return read_type(self.kept.show(part).decode())
 
-    def __enter__(self):
+    def __enter__(self) -> Session:
         return self
 
-    def __exit__(self, kind, value, trace):
+    def __exit__(self, kind: type[BaseException] | None, value: BaseException | None, trace: TracebackType | None) -> None:
         self.stop()
 
     @property
-    def documents(self):
+    def documents(self) -> dict[str, Any]:  # type: ignore[override]
         """Both documents, as the library has them."""
         return {"left": read_json(self.kept.show(library.LEFT).decode()), "right": read_json(self.kept.show(library.RIGHT).decode())}
 
-    def line(self, text):
+    def line(self, text: str) -> Accepted | Refused:
         """Sends a line of a journal that is not blank, and returns its answer: an Accepted, or a Refused that is not raised."""
         with self.lock:
             if "\n" in text or not text.strip(" \t\r"):
@@ -62,20 +73,20 @@ class Session(Editing):
             answer = read_answer(said.decode().rstrip("\n"))
             return answer if isinstance(answer, Accepted) else self.explained(text, answer)
 
-    def state(self):
+    def state(self) -> tuple[bytes, ...]:
         """The texts from which another session can go on."""
         return self.kept.state()
 
-    def twin(self):
+    def twin(self) -> Session:
         """Another session in the same state."""
         return Session(self.program, self.path, state=self.state())
 
-    def stop(self):
+    def stop(self) -> None:
         """Ends the session at once."""
         self.files.trial.stop()
         self.kept.close()
 
-    def close(self):
+    def close(self) -> tuple[Any, Any, Any]:
         """Ends the session. Returns the left document, the right document and the complement."""
         with self.lock:
             self.files.trial.stop()

@@ -1,5 +1,6 @@
 """Tests of the module for Python, over the library that EDITLENS_LIBRARY_PATH names. bindings/check runs them."""
 
+import ctypes
 import json
 import os
 import sys
@@ -47,6 +48,50 @@ def cases(name, words):
         if step["words"] == words:
             yield data[begin:middle], data[middle : middle + step["output"]]
         at = middle + step["output"] + 1
+
+
+class OverCalls(unittest.TestCase):
+    """The functions of the library themselves, called where nothing is open or something is."""
+
+    def setUp(self):
+        self.calls = library.load()
+        size = self.calls.editlens_session_size()
+        self.room = ctypes.create_string_buffer(size + 15)
+        self.at = (ctypes.addressof(self.room) + 15) & ~15
+        self.program = SMALL.encode()
+
+    def statuses(self, at):
+        """What each call answers that wants a session."""
+        calls, line = self.calls, b"{}"
+        answers = [calls.editlens_session_status(at), calls.editlens_session_step(at, line, len(line))]
+        answers += [calls.editlens_session_show(at, library.STATE), calls.editlens_session_text(at, None, 0)]
+        self.assertTrue(all(it.size == library.Answer.size.offset + 8 for it in answers))
+        return {*(it.status for it in answers), calls.editlens_session_close(at)}
+
+    def test_where_nothing_is_open_a_call_says_so(self):
+        for at in (None, self.at):
+            self.assertEqual(self.statuses(at), {library.NOT_OPEN})
+        self.assertEqual(self.calls.editlens_session_open(self.at, self.program, len(self.program)), library.DONE)
+        self.assertEqual(self.calls.editlens_session_close(self.at), library.DONE)
+        self.assertEqual(self.statuses(self.at), {library.NOT_OPEN})
+
+    def test_a_session_is_not_opened_over_another(self):
+        self.assertEqual(self.calls.editlens_session_open(None, self.program, len(self.program)), library.NOT_OPEN)
+        self.assertEqual(self.calls.editlens_session_open(self.at, self.program, len(self.program)), library.DONE)
+        line = b'{"side":"left","edit":[{"at":["hours",[{"set":8}]]}]}'
+        self.assertEqual(self.calls.editlens_session_step(self.at, line, len(line)).status, library.DONE)
+        self.assertEqual(self.calls.editlens_session_open(self.at, self.program, len(self.program)), library.NOT_OPEN)
+        self.assertEqual(self.calls.editlens_session_reopen(self.at, b"", 0), library.NOT_OPEN)
+        self.assertEqual(self.calls.editlens_session_status(self.at).number, 1)
+        self.assertEqual(self.calls.editlens_session_close(self.at), library.DONE)
+
+    def test_the_interface_has_a_number(self):
+        self.assertEqual(self.calls.editlens_version(), library.VERSION)
+
+    def test_a_library_without_this_number_is_another_one(self):
+        with self.assertRaises(library.OtherLibrary) as caught:
+            library.load("libc.so.6")
+        self.assertIn("libc.so.6 has another interface", str(caught.exception))
 
 
 class OverBytes(unittest.TestCase):

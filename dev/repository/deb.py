@@ -65,11 +65,13 @@ def _deb(name, tree, symlinks, **said):
 
 def program_package(built):
     """The name of the package of the programs, and its bytes."""
-    tree = [(name, read(source), 0o755 if is_run(name) else 0o644) for name, source in files(built.programs)]
+    tree = [(name, read(source), 0o755 if is_run(name) else 0o644) for name, source in files(built.programs, built.library)]
     examples = [(name, os.path.join(TOP, name)) for name in tracked() if name.startswith("examples/")]
     tree = [*_placed(tree), *_documents("editlens", built, examples)]
     symlinks = [("usr/" + name + ".gz" * name.startswith("share/man/"), target + ".gz" * name.startswith("share/man/")) for name, target in links()]
-    wanted = f"Depends: libc6 (>= {libc_of(built.programs.values())}), bash, coreutils, python3 (>= 3.9)\nSuggests: chromium\nSection: utils"
+    linked = [*built.programs.values(), *([os.path.join(built.library, "lib", "libeditlens.so")] if built.library else [])]
+    wanted = f"Depends: libc6 (>= {libc_of(linked)}), bash, coreutils, python3 (>= 3.9)"
+    wanted += "\nRecommends: python3-aiohttp, python3-asyncpg\nSuggests: chromium, postgresql\nSection: utils"
     title = "keeps two JSON documents of different shape in step by translating edits"
     data = _deb("editlens", tree, symlinks, more=f"{wanted}\nPriority: optional", title=title, text=ABOUT)
     return f"editlens_{version()}_{ARCHITECTURE}.deb", data

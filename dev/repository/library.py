@@ -20,7 +20,7 @@ ARCHIVE = os.path.join(TOP, "crates", "editlens_c", "out", "libeditlens_c.a")
 HEADER = os.path.join(TOP, "bindings", "c", "editlens.h")
 # What the shared library gives to others, and nothing else.
 EXPORTS = """{
-  global: editlens_session_*; editlens_hub_*;
+  global: editlens_version; editlens_session_*; editlens_hub_*;
   local: *;
 };
 """

@@ -5,7 +5,7 @@ import re
 
 from . import TOP
 from .pages import read_page, roff, section, table_with
-from .tools import title, tools
+from .tools import named, title, verbs
 
 PAGE = os.path.join("docs", "editlens.1")
 SOURCE = "docs/FORMATS.md"
@@ -69,8 +69,14 @@ def synopsis(page):
 
 
 def tool_list(top):
-    """What each tool does."""
-    return listed((f"`{name}`", title(name, top)) for name in tools(top))
+    """What each tool does, and each program of the service."""
+    return listed((f"`{name}`", title(name, top)) for name in named(top))
+
+
+def verb_list(top):
+    """What each verb of the tool `store` does."""
+    said = "All but \\fBcheck\\fR and \\fBimport\\fR may be the first word too, as in \\fBeditlens compact\\fR."
+    return f"{said}\n{listed((f'`store {verb}`', about[0].upper() + about[1:] + '.') for verb, about in verbs(top).items())}"
 
 
 def written(page):
@@ -97,6 +103,7 @@ def manual(top=TOP):
         f".SH COMMANDS\n{commands(page)}",
         f".SH COMMANDS OF EDITHUB\n{commands(page, HUBS)}",
         f".SH TOOLS\nEach says more by \\-\\-help. Installed, it is editlens\\-TOOL too.\n{tool_list(top)}",
+        f".SS Verbs of store\n{verb_list(top)}",
         f".SH OUTPUT\n{written(page)}",
         f".SH EXIT STATUS\n{statuses(page)}",
         ".SH FILES\n.TP\n.B editlens.store\nThe store, in the current folder.\n.TP\n.B edithub.store\nThe store of a hub.",

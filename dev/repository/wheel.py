@@ -15,7 +15,7 @@ import os
 from . import TOP
 from .archives import wheel_record, zip_archive
 from .manual import version
-from .package import PROGRAMS, Built, is_run, provenance, read, shared_files, time_of_commit, tool_files
+from .package import PROGRAMS, Built, is_run, links, provenance, read, shared_files, time_of_commit, tool_files
 
 TAG = "py3-none-linux_x86_64"
 METADATA = """Metadata-Version: 2.1
@@ -57,9 +57,13 @@ def _others(built):
         yield f"{scripts}/{name}", read(os.path.join(TOP, "editlens")), True
     for name, path in built.programs.items():
         yield f"{data}/{PROGRAMS[name]}", read(path), True
-    for name, source in shared_files():
-        if not is_run(name):
-            yield f"{data}/{name}", read(source), False
+    shared = {name: source for name, source in shared_files() if not is_run(name)}
+    # A wheel has no links, so what has another name is there twice.
+    for name, target in links():
+        if name.startswith("share/"):
+            shared[name] = shared[os.path.join(os.path.dirname(name), target)]
+    for name, source in sorted(shared.items()):
+        yield f"{data}/{name}", read(source), False
 
 
 def wheel(built):

@@ -71,8 +71,12 @@ class Database:
     async def use(self, call: "Callable[[Any], Awaitable[Found]]") -> Found:
         """One try of a call with a connection."""
         assert self.pool
-        async with self.pool.acquire(timeout=self.seconds) as connection:
+        async with asyncio.timeout(self.seconds):
+            connection = await self.pool.acquire()
+        try:
             return await call(connection)
+        finally:
+            await self.pool.release(connection, timeout=self.seconds)
 
     async def read(self, call: "Callable[[Any], Awaitable[Found]]") -> Found:
         """A call that changes nothing, made again while the database is away. Raises Away."""

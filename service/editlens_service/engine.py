@@ -8,11 +8,12 @@ from __future__ import annotations
 
 import json
 from dataclasses import dataclass
-from typing import Sequence
+from typing import Any, Sequence
 
 import editlens_hub as hubs
 import editlens_library as library
-from editlens.json_text import read_json, write_json
+from editlens.construct import replace_steps, word_of
+from editlens.json_text import NotJson, read_json, write_json
 from editlens.types import Ty, read_type
 from library_session import Session
 
@@ -106,9 +107,15 @@ class PairState:
         side, words = _entry_words(payload, rest) if payload.startswith('{"entry":') else _group_words(payload, rest)
         return Stepped(True, rest, payload, side, words)
 
-    def undo_words(self) -> "tuple[str, str]":
-        """The words that take both documents back over the last line, which was accepted."""
-        return self.kept.show(library.UNDO_LEFT).decode(), self.kept.show(library.UNDO_RIGHT).decode()
+    def words_back(self, payloads: Sequence[str], newest: "PairState") -> "list[str]":
+        """The words that take the documents back to this state over the changes behind it. This state is the newest one then."""
+        words: "list[list]" = [[], []]
+        for payload in payloads:
+            stepped = self.step(line_of(payload))
+            assert stepped and stepped.is_accepted, "a stored change is accepted again"
+            for word, part in zip(words, (library.UNDO_LEFT, library.UNDO_RIGHT)):
+                word[:0] = read_json(self.kept.show(part).decode())
+        return [write_json(it) for it in words]
 
     def snapshot(self) -> str:
         """The record of a snapshot."""
@@ -162,6 +169,7 @@ class HubState:
 
     def __init__(self, hub: hubs.Hub, programs: "list[str]") -> None:
         self.hub, self.programs = hub, programs
+        self._types: "dict[str, Ty] | None" = None
         self.names = (HUB, *map(str, range(len(programs))))
 
     @classmethod
@@ -199,7 +207,23 @@ class HubState:
         return write_json({"hub": self.programs, "version": 1})
 
     def step(self, line: bytes) -> "Stepped | None":
-        """Takes a line of a hub's journal. None for a blank one."""
+        """Takes a line of a hub's journal, an edit or a group. None for a blank one."""
+        edits = _edits_of_group(line)
+        return self._step_one(line) if edits is None else self._step_group(edits)
+
+    def _step_group(self, edits: "list[Any]") -> Stepped:
+        """Takes a group, as `edithub apply` does. The library has no groups: if an edit is refused, the hub goes on from its texts."""
+        texts = self.hub.texts()
+        steps = [it for it in (self._step_one(write_json(edit).encode()) for edit in edits) if it]
+        if all(it.is_accepted for it in steps):
+            parts = ",".join(f'{{"hub":{it.words[0]},"views":[{",".join(it.words[1:])}]}}' for it in steps)
+            words = [write_json([one for it in steps for one in read_json(it.words[place])]) for place in range(len(self.names))]
+            return Stepped(True, f"group [{parts}]", f'{{"group":[{",".join(it.payload for it in steps)}]}}', "group", tuple(words))
+        self.hub.close()
+        self.hub = hubs.Hub([it.encode() for it in self.programs], texts)
+        return Stepped(False, _refusal_of_group(steps))
+
+    def _step_one(self, line: bytes) -> "Stepped | None":
         answer, said = self.hub.step(line)
         if answer.status == library.BLANK:
             return None
@@ -225,18 +249,50 @@ class HubState:
 
     def types(self) -> "dict[str, Ty]":
         """The type of each document: those of the lenses, each opened for a moment."""
-        found: "dict[str, Ty]" = {}
-        for number, program in enumerate(self.programs):
-            state = PairState.begin(program, {})
-            left, right = (state.types()[side] for side in SIDES)
-            state.close()
-            found.setdefault(HUB, left)
-            found[str(number)] = right
-        return found
+        if self._types is None:
+            found: "dict[str, Ty]" = {}
+            for number, program in enumerate(self.programs):
+                state = PairState.begin(program, {})
+                left, right = (state.types()[side] for side in SIDES)
+                state.close()
+                found.setdefault(HUB, left)
+                found[str(number)] = right
+            self._types = found
+        return self._types
+
+    def words_back(self, payloads: Sequence[str], newest: "HubState") -> "list[str]":
+        """The words that take the documents of the newest state back to this one. They replace what differs."""
+        documents = [(name, read_json(newest.document(name)), read_json(self.document(name))) for name in self.names]
+        return [write_json(word_of(replace_steps(self.types()[name], new, old))) for name, new, old in documents]
 
     def close(self) -> None:
         """Ends the hub."""
         self.hub.close()
+
+
+MOST_LINE = 1 << 20
+"""Bytes of a line of a journal. A longer one is left for the engine to refuse."""
+
+
+def _edits_of_group(line: bytes) -> "list[Any] | None":
+    """The edits of a group of a hub's journal. None for any other line."""
+    if b"group" not in line or len(line) > MOST_LINE:
+        return None
+    try:
+        tree = read_json(line.decode())
+    except (NotJson, UnicodeDecodeError):
+        return None
+    return tree["group"] if isinstance(tree, dict) and set(tree) == {"group"} and isinstance(tree["group"], list) else None
+
+
+def _refusal_of_group(steps: "list[Stepped]") -> str:
+    """The refusal of a group: the form of all its edits counts first, then whether each is one, then the first that is refused."""
+    rests = [it.rest for it in steps if not it.is_accepted]
+    for fault in ("not-an-entry", "not-an-edit"):
+        if fault in rests:
+            return fault
+    place, first = next((place, it.rest) for place, it in enumerate(steps) if not it.is_accepted)
+    return f"group {place} {first}"
 
 
 State = "PairState | HubState"

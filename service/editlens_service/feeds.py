@@ -1,7 +1,7 @@
 """What streams are told. A stream has no queue: it has a number, and reads the log from there on.
 
-A worker wakes its own streams when a change is stored, and tells the other workers by NOTIFY, some milliseconds later and for many pairs at
-once. Nothing rests on that: each worker also asks for the newest numbers from time to time.
+A worker wakes its own streams when a change is stored, and tells the other workers by NOTIFY, for many pairs at once where there are many
+changes. Nothing rests on that: each worker also asks for the newest numbers from time to time.
 """
 
 from __future__ import annotations
@@ -19,7 +19,7 @@ from .database import AWAY, SESSION, Away, Connection, Database
 from editlens.json_text import read_json, write_json
 
 CHANNEL = "editlens"
-TELL_PAUSE, ASK_PAUSE, AGAIN_PAUSE = 0.005, 2.0, 1.0
+TELL_PAUSE, ASK_PAUSE, AGAIN_PAUSE = 0.02, 2.0, 1.0
 RING = 512
 MOST_TOLD = 400
 
@@ -150,7 +150,6 @@ class Feeds:
         """Tells the other workers what was stored here."""
         while True:
             await self.has_untold.wait()
-            await asyncio.sleep(TELL_PAUSE)
             told = [self.untold.pop() for _ in range(min(MOST_TOLD, len(self.untold)))]
             if not self.untold:
                 self.has_untold.clear()
@@ -159,6 +158,7 @@ class Feeds:
             except AWAY:
                 # The others ask by themselves.
                 await asyncio.sleep(AGAIN_PAUSE)
+            await asyncio.sleep(TELL_PAUSE)
 
     async def _listen(self) -> None:
         """Hears what other workers have stored."""

@@ -83,7 +83,8 @@ REMOVE = (
 REMOVE_RECORDS = "DELETE FROM records WHERE pair = $1 AND number <= $2"
 """The end stays behind the records, so that no worker stores anything behind them."""
 
-TELL = "SELECT pg_notify('editlens', $1)"
+TELL = "SELECT pg_notify('editlens', $1) FROM set_config('synchronous_commit', 'off', true)"
+"""Nothing rests on what is told, so its transaction does not wait for the disk."""
 
 TOKEN = "SELECT author, rights FROM tokens WHERE digest = $1 AND (ends IS NULL OR ends > now())"
 

@@ -6,6 +6,7 @@ import { readJson, writeJson } from "../clients/javascript/editlens_json.js";
 
 const [address, token, name, side] = process.argv.slice(2);
 const client = new Client(address, token);
+client.waits = (pending) => console.log(writeJson({ waiting: pending.size }));
 const document = client.pair(name, side);
 document.follow((copy, number) => console.log(writeJson({ copy, number })));
 for await (const line of createInterface({ input: process.stdin })) {

@@ -97,10 +97,10 @@ def run_program(folder: str, *words: str) -> str:
     return subprocess.run([program(), *words], cwd=folder, capture_output=True, text=True, check=False).stdout
 
 
-def raises(kind: type, call: Any, *given: Any, **more: Any) -> Any:
+def raises(error: type, call: Any, *given: Any, **more: Any) -> Any:
     """The exception that a call raises. It has to raise one."""
     try:
         found = call(*given, **more)
-    except kind as why:
+    except error as why:
         return why
     raise AssertionError(f"it returned {found!r}")

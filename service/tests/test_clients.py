@@ -67,8 +67,9 @@ class Follower:
     """The client in Node."""
 
     def __init__(self, *words: str) -> None:
-        self.process = subprocess.Popen([_node(), os.path.join(HERE, "follow.mjs"), *words], stdin=subprocess.PIPE, stdout=subprocess.PIPE, text=True)
+        self.process = subprocess.Popen([_node(), os.path.join(HERE, "follow.mjs"), *words], stdin=subprocess.PIPE, stdout=subprocess.PIPE)
         self.rows: "list[dict[str, Any]]" = []
+        self.rest = b""
 
     def until(self, is_found: Any, seconds: float = 90.0) -> "dict[str, Any]":
         """The first line that is looked for."""
@@ -79,14 +80,15 @@ class Follower:
                     return row
             at = len(self.rows)
             ready, _, _ = select.select([self.process.stdout], [], [], max(0.0, deadline - time.monotonic()))
-            line = self.process.stdout.readline() if ready else ""  # type: ignore[union-attr]
-            assert line, self.rows[-5:]
-            self.rows.append(json.loads(line))
+            piece = os.read(self.process.stdout.fileno(), 1 << 16) if ready else b""  # type: ignore[union-attr]
+            assert piece, self.rows
+            *lines, self.rest = (self.rest + piece).split(b"\n")
+            self.rows += map(json.loads, lines)
 
     def send(self, edit: Any) -> None:
         """Tells it to send an edit."""
         assert self.process.stdin
-        self.process.stdin.write(json.dumps(edit) + "\n")
+        self.process.stdin.write(json.dumps(edit).encode() + b"\n")
         self.process.stdin.flush()
 
     def close(self) -> None:
@@ -117,6 +119,29 @@ def test_the_client_in_node(room: Room) -> None:
         assert copy == {"hours": 2**62 + 1, "plan": [{"done": "Roof"}]} == room.client(1).pair(name, "left").read()[0]
         follower.send([{"at": ["plan", [{"del": 2}]]}])
         follower.until(lambda it: it.get("refused") == "range")
+    finally:
+        follower.close()
+
+
+def test_pending_edits_in_node(room: Room) -> None:
+    """Edits that were made while no worker answered are sent in their order when one does: each makes sense behind the one before it alone."""
+    name, count = room.name(), 8
+    room.client(1).make(name, PROGRAM)
+    worker = room.serve()[0]
+    follower = Follower(worker.address, "all", name, "left")
+    try:
+        follower.until(lambda it: it.get("number") == 0)
+        worker.kill()
+        for place in range(count):
+            follower.send([{"at": ["plan", [{"ins": 1}, {"mod": [place, [{"stay": ["todo", [{"set": str(place)}]]}]]}]]}])
+        follower.until(lambda it: it.get("waiting") == count)
+        assert room.client(1).pair(name, "left").edit([{"at": ["hours", [{"add": 1}]]}]).number == 1
+        worker.start()
+        follower.until(lambda it: it.get("waiting") == 0)
+        follower.until(lambda it: it.get("number") == count + 1)
+        assert [it["answer"] for it in follower.rows if "answer" in it] == list(range(2, count + 2))
+        assert not [it for it in follower.rows if "refused" in it]
+        assert room.client(1).pair(name, "left").read()[0] == {"hours": 1, "plan": [{"todo": str(it)} for it in range(count)]}
     finally:
         follower.close()
 

@@ -92,28 +92,3 @@ def test_a_database_that_is_away(room: Room) -> None:
         for call in (Call("GET", "/readyz"), Call("GET", "/pairs/p/left")):
             with_status = raises(Exception, client.ask, call)
             assert "503" in str(with_status), with_status
-
-
-def test_hubs(room: Room) -> None:
-    """A hub and its views follow one another, by the library alone."""
-
-    name, client, other = room.name("hub"), room.client(0), room.client(1)
-    programs = ["main {a ~ x: id int, left b: int}\n", "main {a ~ p: id int, b ~ q: id int}\n"]
-    client.make_hub(name, programs)
-    view = other.hub(name, 1)
-    answer = client.hub(name, 0).edit([{"at": ["x", [{"set": 3}]]}])
-    assert answer.edits == {"hub": [{"at": ["a", [{"set": 3}]]}], "0": [{"at": ["x", [{"set": 3}]]}], "1": [{"at": ["p", [{"set": 3}]]}]}
-    assert view.edit([{"at": ["q", [{"add": 2}]]}], expected=1).number == 2
-    assert client.hub(name).read() == ({"a": 3, "b": 2}, 2)
-    assert client.hub(name, 0).read() == ({"x": 3}, 2)
-    patched = client.hub(name).patch([{"op": "replace", "path": "/b", "value": 9}])
-    assert patched.reply["patches"]["1"] == [{"op": "replace", "path": "/q", "value": 9}]
-    events = view.changes(0)
-    assert [next(events).data["edit"] for _ in range(3)] == [[{"at": ["p", [{"set": 3}]]}], [{"at": ["q", [{"add": 2}]]}], [{"at": ["q", [{"set": 9}]]}]]
-    assert raises(Refusal, client.hub(name, 2).read).status == 404
-    assert raises(Refusal, client.hub(name, 2).edit, []).problem["cause"] == "no-view"
-    store, again = client._send(Call("GET", f"/hubs/{name}/store"))[1], room.name("hub")
-    made = client.ask(Call("PUT", f"/hubs/{again}/store", {"Content-Type": "application/vnd.editlens.store"}, store))
-    assert made["number"] == 3 and client.hub(again, 1).read() == (view.read()[0], 3)
-    wrong = change("PUT", f"/hubs/{room.name('hub')}", "application/json", write({"programs": ["main id int\n", "main id text\n"]}), None, None)
-    assert raises(Refusal, client.ask, wrong).problem["cause"] == "views-differ"

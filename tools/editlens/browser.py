@@ -1,5 +1,7 @@
 """A browser without a window, driven over WebDriver (a W3C recommendation): Debian's chromium with chromium-driver. For tests and pictures."""
 
+from __future__ import annotations
+
 import base64
 import json
 import os
@@ -10,6 +12,7 @@ import subprocess
 import time
 import urllib.error
 import urllib.request
+from typing import Any, Callable
 
 ELEMENT = "element-6066-11e4-a52e-4f735466cecf"
 PATIENCE = 3600
@@ -35,7 +38,7 @@ class BrowserFault(Exception):
     """The browser did not do what it was told."""
 
 
-def find_browser():
+def find_browser() -> tuple[str, str]:
     """The paths of the browser and of its driver."""
     browser, driver = shutil.which("chromium"), shutil.which("chromedriver")
     if not browser or not driver:
@@ -46,7 +49,7 @@ def find_browser():
 class Browser:
     """A browser with one window or several. It is for `with`, which ends it. Raises NoBrowser where there is none."""
 
-    def __init__(self, width=1280, height=800, is_dark=False):
+    def __init__(self, width: int = 1280, height: int = 800, is_dark: bool = False) -> None:
         browser, driver = find_browser()
         options = [
             "--headless=new", "--no-sandbox", "--disable-gpu", "--disable-dev-shm-usage", "--hide-scrollbars", "--force-color-profile=srgb",
@@ -90,10 +93,10 @@ class Browser:
                 if turn == TRIES - 1:
                     raise
 
-    def __enter__(self):
+    def __enter__(self) -> Browser:
         return self
 
-    def __exit__(self, *_):
+    def __exit__(self, *_: object) -> None:
         try:
             self._call("DELETE", f"/session/{self.session}", None, FAREWELL)
         except (BrowserFault, OSError):
@@ -112,15 +115,15 @@ class Browser:
     def _do(self, method, path, body=None):
         return self._call(method, f"/session/{self.session}{path}", {} if method == "POST" and body is None else body)
 
-    def resize(self, width, height):
+    def resize(self, width: int, height: int) -> None:
         """Gives the page this size."""
         self.devtools("Emulation.setDeviceMetricsOverride", {"width": width, "height": height, "deviceScaleFactor": 1, "mobile": False})
 
-    def prefer(self, scheme):
+    def prefer(self, scheme: str) -> None:
         """Makes the page light or dark."""
         self.devtools("Emulation.setEmulatedMedia", {"features": [{"name": "prefers-color-scheme", "value": scheme}]})
 
-    def devtools(self, command, given):
+    def devtools(self, command: str, given: dict[str, Any]) -> Any:
         """A command of the browser's own protocol."""
         return self._do("POST", "/goog/cdp/execute", {"cmd": command, "params": given})
 
@@ -128,11 +131,11 @@ class Browser:
         """Lets the window in use have the focus for as long as it is there, whatever is done in others."""
         self.devtools("Emulation.setFocusEmulationEnabled", {"enabled": True})
 
-    def open(self, url):
+    def open(self, url: str) -> None:
         """Goes to a page."""
         self._do("POST", "/url", {"url": url})
 
-    def new_window(self):
+    def new_window(self) -> str:
         """Opens a window, and returns its name. The one that was used stays the one in use."""
         here, made = self.window, self._do("POST", "/window/new", {"type": "window"})["handle"]
         self.use(made)
@@ -141,11 +144,11 @@ class Browser:
         return made
 
     @property
-    def windows(self):
+    def windows(self) -> list[str]:
         """The names of all windows."""
         return self._do("GET", "/window/handles")
 
-    def close_others(self):
+    def close_others(self) -> None:
         """Closes all windows but the one in use, or but the first one where that was closed."""
         windows = self.windows
         try:
@@ -159,23 +162,23 @@ class Browser:
         self.use(here)
 
     @property
-    def window(self):
+    def window(self) -> str:
         """The name of the window in use."""
         return self._do("GET", "/window")
 
-    def use(self, window):
+    def use(self, window: str) -> None:
         """Uses another window."""
         self._do("POST", "/window", {"handle": window})
 
-    def run(self, script, *given):
+    def run(self, script: str, *given: Any) -> Any:
         """Runs JavaScript in the page and returns what it returns. What is given is `arguments`."""
         return self._do("POST", "/execute/sync", {"script": script, "args": list(given)})
 
-    def wait_for(self, script, *given):
+    def wait_for(self, script: str, *given: Any) -> Any:
         """Runs JavaScript in the page, and returns what it calls its last argument with."""
         return self._do("POST", "/execute/async", {"script": script, "args": list(given)})
 
-    def find(self, selector):
+    def find(self, selector: str) -> Any:
         """The first element of a selector, once it is there."""
         return self.until(lambda: self._found(selector), f"there is no {selector}")
 
@@ -183,7 +186,7 @@ class Browser:
         found = self._do("POST", "/elements", {"using": "css selector", "value": selector})
         return found[0] if found else None
 
-    def click(self, selector):
+    def click(self, selector: str) -> None:
         """Clicks on an element. One that the page draws anew meanwhile is looked for again."""
         self.until(lambda: self._is_clicked(selector), f"{selector} is drawn anew again and again")
 
@@ -196,11 +199,11 @@ class Browser:
             return False
         return True
 
-    def type(self, selector, text):
+    def type(self, selector: str, text: str) -> None:
         """Types into an element, behind what is there."""
         self._do("POST", f"/element/{self.find(selector)[ELEMENT]}/value", {"text": text})
 
-    def press(self, *keys):
+    def press(self, *keys: str) -> None:
         """Presses keys one after another, where the focus is: names of KEYS, or characters. Those with a + are held together."""
         actions = []
         for key in keys:
@@ -208,28 +211,28 @@ class Browser:
             actions += [{"type": "keyDown", "value": it} for it in parts] + [{"type": "keyUp", "value": it} for it in reversed(parts)]
         self._do("POST", "/actions", {"actions": [{"type": "key", "id": "keys", "actions": actions}]})
 
-    def drag(self, selector, target):
+    def drag(self, selector: str, target: str) -> None:
         """Drags an element onto another one with the mouse."""
         there = [self.find(it) for it in (selector, target)]
         moves = [{"type": "pointerMove", "duration": 60, "x": 0, "y": 0, "origin": it} for it in there]
         actions = [moves[0], {"type": "pointerDown", "button": 0}, moves[1], {"type": "pause", "duration": 30}, {"type": "pointerUp", "button": 0}]
         self._do("POST", "/actions", {"actions": [{"type": "pointer", "id": "mouse", "parameters": {"pointerType": "mouse"}, "actions": actions}]})
 
-    def point(self, selector):
+    def point(self, selector: str) -> None:
         """Moves the mouse over an element."""
         move = {"type": "pointerMove", "duration": 10, "x": 0, "y": 0, "origin": self.find(selector)}
         self._do("POST", "/actions", {"actions": [{"type": "pointer", "id": "mouse", "parameters": {"pointerType": "mouse"}, "actions": [move]}]})
 
-    def picture(self):
+    def picture(self) -> bytes:
         """A picture of the page as it is seen, as PNG."""
         return base64.b64decode(self._do("GET", "/screenshot"))
 
-    def complaints(self):
+    def complaints(self) -> list[str]:
         """The faults that the page wrote to the browser's log since the last call."""
         return [it["message"] for it in self._do("POST", "/se/log", {"type": "browser"}) if it["level"] == "SEVERE"]
 
     @staticmethod
-    def until(call, why, seconds=PATIENCE):
+    def until(call: Callable[[], Any], why: str | Callable[[], str], seconds: float = PATIENCE) -> Any:
         """What a call returns, once that is something. Raises BrowserFault after some seconds, with a text or with what a call says then."""
         deadline = time.monotonic() + seconds
         while True:

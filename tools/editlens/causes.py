@@ -1,10 +1,14 @@
 """Why a line of a journal is refused: the place in the document, and what would have been allowed there."""
 
+from __future__ import annotations
+
 from dataclasses import dataclass
+from typing import Any
 
 from .edits import NoApply, act, form_fault
 from .json_text import NotJson, pointer, read_json, shown
 from .parts import HUB
+from .types import Ty
 
 MOST_LINE = 1_048_576
 
@@ -35,7 +39,7 @@ class Before:
     documents: dict
 
 
-def explain_refusal(before, line, answer):
+def explain_refusal(before: Before, line: str, answer: Any) -> list[str]:
     """The lines that explain why a line of a journal is refused."""
     tree, said = read_line(line, answer)
     if said:
@@ -49,7 +53,7 @@ def explain_refusal(before, line, answer):
     return _no_apply(before, tree, answer)
 
 
-def read_line(line, answer):
+def read_line(line: str, answer: Any) -> tuple[Any, list[str]]:
     """The tree of a line and no words; or None, and the words that say why it has none."""
     if answer.cause == "line-too-long":
         return None, [f"  the line has {len(line.encode()):,} bytes, and at most {MOST_LINE:,} are read"]
@@ -80,7 +84,7 @@ def _no_apply(before, tree, answer):
     return said + explain_edit(name, before.types[at], document, edit, answer)
 
 
-def explain_edit(name, ty, document, edit, answer):
+def explain_edit(name: str, ty: Ty, document: Any, edit: Any, answer: Any) -> list[str]:
     """The lines that explain why an edit does not apply to a document, which is called `name`."""
     try:
         act(ty, document, edit)

@@ -1,5 +1,9 @@
 """The places that an edit changed, as they are called in the document after it. They follow from the edit: nothing is compared."""
 
+from __future__ import annotations
+
+from typing import Any, Callable
+
 from .edits import act, node_at
 from .types import Ty, initial
 
@@ -9,10 +13,11 @@ SET, NEW, MOVED = "set", "new", "moved"
 class Change:
     """What was done at a place and inside it. `parts` has the same form as the value there, and None where nothing was done."""
 
-    def __init__(self, sort=None):
-        self.sort, self.parts = sort, None
+    def __init__(self, sort: str | None = None) -> None:
+        self.sort = sort
+        self.parts: Any = None
 
-    def inside(self, place, make_parts):
+    def inside(self, place: Any, make_parts: Callable[[], Any]) -> Change:
         """The change at a place inside."""
         if self.parts is None:
             self.parts = make_parts()
@@ -21,7 +26,7 @@ class Change:
         return self.parts[place]
 
 
-def changed_places(ty, document, edit):
+def changed_places(ty: Ty, document: Any, edit: Any) -> list[tuple[tuple[Any, ...], str]]:
     """The places that an edit changed, each with what was done there: pairs of a path in the document after it and a sort."""
     top = Change()
     _follow(ty, document, edit, top)

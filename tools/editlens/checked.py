@@ -1,5 +1,7 @@
 """What the program says of a lens program: its two types, or why it is refused, with the place in its text."""
 
+from __future__ import annotations
+
 import subprocess
 
 from .answers import ProgramRefused, RunEnded
@@ -8,7 +10,7 @@ from .json_text import pointer
 from .lines import lines_of
 from .parts import SEPARATOR, views_of
 from .program import find_program
-from .types import differences, read_type, read_types, token_at, tokens, write_type
+from .types import Ty, differences, read_type, read_types, token_at, tokens, write_type
 
 OFFSETS = ("not-a-program", "unknown-name", "repeated-name")
 
@@ -24,7 +26,7 @@ REASONS = {
 }
 
 
-def place_of(data, at):
+def place_of(data: bytes, at: int) -> tuple[int, int, str]:
     """The line, from 1, the column in characters, from 1, and the text of the line of a byte."""
     begin = data.rfind(b"\n", 0, at) + 1
     end = data.find(b"\n", at)
@@ -33,7 +35,7 @@ def place_of(data, at):
     return data.count(b"\n", 0, at) + 1, column, text.rstrip("\r")
 
 
-def pointed(data, at, width=1):
+def pointed(data: bytes, at: int, width: int = 1) -> list[str]:
     """The line of a byte with a caret below it."""
     line, column, text = place_of(data, at)
     pad = "".join("\t" if it == "\t" else " " for it in text[: column - 1])
@@ -57,7 +59,7 @@ def _bad_token(data, token):
     return "no token begins like this"
 
 
-def explain_program(text, reason):
+def explain_program(text: str, reason: str) -> list[str]:
     """The lines that explain why a program is refused. `reason` is what stands behind `program refused:`."""
     data, words = text.encode(), reason.split(" ", 1)
     said = [f"program refused: {reason}"]
@@ -110,7 +112,7 @@ def _unexpected(data, token):
     return said
 
 
-def check(program_text, path=None):
+def check(program_text: str, path: str | None = None) -> tuple[Ty, Ty]:
     """The types of the left and of the right document. Raises ProgramRefused."""
     path = path or find_program()
     ran = subprocess.run([path, "check"], input=program_text.encode(), stdout=subprocess.PIPE, check=False)
@@ -122,7 +124,7 @@ def check(program_text, path=None):
     return read_type(lines[0].removeprefix("left ")), read_type(lines[1].removeprefix("right "))
 
 
-def program_refused(program_part, line):
+def program_refused(program_part: str, line: str) -> ProgramRefused:
     """The ProgramRefused of a line `program refused: ..`, which explains itself."""
     reason = line.rstrip("\n").removeprefix("program refused: ")
     return ProgramRefused(reason, lambda: explain_program(program_part, reason)[1:])

@@ -1,5 +1,7 @@
 """What is wrong with a store, what of it can be read, and what is lost."""
 
+from __future__ import annotations
+
 import os
 from dataclasses import dataclass
 
@@ -8,7 +10,7 @@ from .kinds import split
 from .lock import StoreLock
 from .log import CLOSED, FIRST, FIRST_RECORDS, LENGTH, MARK, OPEN, Log, is_change, kind_of, number_of, printable, sync_folder, told
 from .replacement import NotDone
-from .store import StoreRefused
+from .store import Store, StoreRefused
 from .store_file import open_regular
 
 MOST_SHOWN = 60
@@ -22,7 +24,7 @@ class Readable:
     is_all: bool
 
 
-def readable(log, store, number=0):
+def readable(log: Log, store: Store, number: int = 0) -> Readable:
     """The records with which one can go on: all of a store that is not refused, and of another one those before the first that is bad.
 
     If `number` goes past the end of a store that is not refused, the records that were found behind its end count, too.
@@ -46,7 +48,7 @@ def _until_bad(found):
     return payloads
 
 
-def is_left_over(log):
+def is_left_over(log: Log) -> bool:
     """Whether a file is no more than what a killed `init` or `import` leaves: it has no change, and had none.
 
     It is the mark or the beginning of it. Or it has no record or the program alone, and behind that at most the one that was being stored.
@@ -62,7 +64,7 @@ def is_left_over(log):
 class Checkup:
     """A look at the store in a folder, or at that of a file. `refusal` is what the program says against it, or None, and `lines` is the report."""
 
-    def __init__(self, place, path=None):
+    def __init__(self, place: str, path: str | None = None) -> None:
         folder, kind = split(place)
         self.store, self.refusal = kind(folder, path), None
         if not os.path.exists(self.store.file):
@@ -177,7 +179,7 @@ def _refusal_of(payload):
     return "such a record cannot stand there" if kind == "version" else "its program is refused, or is not the first record"
 
 
-def remove_left_over(place, path=None, wait=0.0):
+def remove_left_over(place: str, path: str | None = None, wait: float = 0.0) -> None:
     """Removes a file in which no change was stored. Raises NotDone if it is anything else."""
     with StoreLock(split(place)[0], wait):
         found = Checkup(place, path)

@@ -1,16 +1,25 @@
 """The edits that build a document from the initial one, part by part. Nothing is compared with an earlier version."""
 
+from __future__ import annotations
+
 import copy
+from typing import Any, Iterable, Iterator, Tuple
 
 from .edits import MOST_ITEMS, paths_of
 from .json_text import read_json, write_json
-from .types import initial
+from .types import Ty, initial
+
+Path = Tuple[Any, ...]
+"""Where a step goes: pairs of a primitive and a name, from the outermost inwards."""
+
+Step = Tuple[Path, Any]
+"""A path, and the primitive that is done there."""
 
 MOST_BYTES = 4_000
 """About so many bytes of an entry are built before the next one begins. An entry has at most 1,048,576."""
 
 
-def set_steps(ty, document, path=()):
+def set_steps(ty: Any, document: Any, path: Path = ()) -> Iterator[Step]:
     """Steps that make the initial document of a type this one: each a path, of pairs of a primitive and a name, and a primitive.
 
     Keys come in the order in which the document has them.
@@ -37,12 +46,12 @@ def set_steps(ty, document, path=()):
         yield path, {"set": document}
 
 
-def insert_steps(count, path):
+def insert_steps(count: int, path: Path) -> Iterator[Step]:
     """Steps that add so many items at the end of a list."""
     yield from _counted("ins", count, path)
 
 
-def delete_steps(count, path):
+def delete_steps(count: int, path: Path) -> Iterator[Step]:
     """Steps that take so many items off the end of a list."""
     yield from _counted("del", count, path)
 
@@ -61,7 +70,7 @@ def _tree_steps(ty, document, path):
         yield from set_steps(ty.inner, item, (*path, ("mod", place)))
 
 
-def replace_steps(ty, old, new, path=()):
+def replace_steps(ty: Any, old: Any, new: Any, path: Path = ()) -> Iterator[Step]:
     """Steps that replace a value as a whole: a record field by field, alternatives, lists, maps and trees by new contents.
 
     What is the same as a whole has no steps, and so has what is below the root of a tree. Equal items inside are not looked for.
@@ -100,7 +109,7 @@ def replace_steps(ty, old, new, path=()):
         yield path, {"set": new}
 
 
-def add_step(word, path, primitive):
+def add_step(word: list[Any], path: Path, primitive: Any) -> None:
     """Puts a step at the end of a word, inside the last primitive where that one goes to the same place."""
     for name, place in path:
         last = word[-1] if word else {}
@@ -109,24 +118,25 @@ def add_step(word, path, primitive):
         elif last.get(name, [None])[0] == place:
             word = last[name][1]
         else:
-            inner = []
+            inner: list[Any] = []
             word.append({name: [place, inner]})
             word = inner
     # What stands behind a switch goes inside it, so the word has a copy of its own.
     word.append(copy.deepcopy(primitive))
 
 
-def word_of(steps):
+def word_of(steps: Iterable[Step]) -> list[Any]:
     """One word of all the steps."""
-    word = []
+    word: list[Any] = []
     for path, primitive in steps:
         add_step(word, path, primitive)
     return word
 
 
-def words_of(steps, most=MOST_BYTES):
+def words_of(steps: Iterable[Step], most: int = MOST_BYTES) -> Iterator[list[Any]]:
     """The steps as words of about so many bytes each."""
-    word, size = [], 0
+    word: list[Any] = []
+    size = 0
     for path, primitive in steps:
         cost = len(write_json(primitive)) + sum(len(write_json(place)) + 10 for _, place in path)
         if word and size + cost > most:
@@ -138,6 +148,6 @@ def words_of(steps, most=MOST_BYTES):
         yield word
 
 
-def construct(ty, document):
+def construct(ty: Ty, document: Any) -> list[Any]:
     """The word that makes the initial document of a type this one, with its keys in byte order."""
     return word_of(set_steps(ty, read_json(write_json(document))))

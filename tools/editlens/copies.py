@@ -1,15 +1,23 @@
 """Stores of some records, made in folders of their own: what the program says of a part of a store is found out there."""
 
+from __future__ import annotations
+
 import tempfile
 from contextlib import contextmanager
+from typing import Any, Iterable, Iterator
 
 from .kinds import kind_of_first
 from .log import Log, write_log
-from .store import StoreRefused
+from .store import Store, StoreRefused
 
 
 @contextmanager
-def copy_of(payloads, path=None, folder=None, kind=None):
+def copy_of(
+    payloads: Iterable[bytes],
+    path: str | None = None,
+    folder: str | None = None,
+    kind: type[Store] | None = None,
+) -> Iterator[Store]:
     """A store of these records, in a new folder inside this one, or among the temporary files. It is removed at the end.
 
     Where its kind is not given, it is that of the first record.
@@ -21,13 +29,13 @@ def copy_of(payloads, path=None, folder=None, kind=None):
         yield store
 
 
-def state_of(payloads, path=None):
+def state_of(payloads: Iterable[bytes], path: str | None = None) -> Any:
     """What `show` says of these records. Raises StoreRefused."""
     with copy_of(payloads, path) as store:
         return store.show()
 
 
-def snapshot_of(payloads, path=None, folder=None):
+def snapshot_of(payloads: Iterable[bytes], path: str | None = None, folder: str | None = None) -> bytes:
     """The payload of the snapshot that the program makes of these records. Raises StoreRefused."""
     with copy_of(payloads, path, folder) as store:
         store.pack()
@@ -35,7 +43,7 @@ def snapshot_of(payloads, path=None, folder=None):
             return log.payload(log.spans[-1])
 
 
-def good_count(payloads, store):
+def good_count(payloads: list[bytes], store: Store) -> int:
     """How many of these records, from the first one on, are a store of the kind of this one that is not refused."""
     count = len(payloads)
     while count:
@@ -48,6 +56,6 @@ def good_count(payloads, store):
     return 0
 
 
-def record_of(reason):
+def record_of(reason: str) -> int:
     """The number of the record that a refusal names."""
     return int(reason.split(" ")[1])

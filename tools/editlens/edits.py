@@ -4,13 +4,16 @@ This says again, in Python, what the program does and what is proved of it. tool
 they are never changed, and an edit makes a new one.
 """
 
+from __future__ import annotations
+
 from dataclasses import dataclass
+from typing import Any
 
 from .documents import is_int
 from .json_text import pointer, shown
 from .plans import MOST_ITEMS, RESHAPINGS, NoPlan, item_at, key_at, listed, need_node, quoted
 from .plans import children_of, node_at, paths_of, subtree  # noqa: F401 (places of trees, which go with edits of trees)
-from .types import LEAST_INT, MOST_INT, initial, write_name
+from .types import LEAST_INT, MOST_INT, Ty, initial, write_name
 
 MOST_COUNT = 2**64 - 1
 
@@ -38,7 +41,7 @@ class NoApply(Exception):
     allowed: str
     at: int = 0
 
-    def __str__(self):
+    def __str__(self) -> str:
         return f"{self.cause} at {pointer(self.path) or '(the document)'}, which is {shown(self.value)}; allowed: {self.allowed}"
 
 
@@ -46,12 +49,12 @@ class NotAnEdit(ValueError):
     """A tree that is not an edit."""
 
 
-def is_count(tree):
+def is_count(tree: Any) -> bool:
     """Whether a tree is a whole number from 0 below 2^64."""
     return type(tree) is int and 0 <= tree <= MOST_COUNT
 
 
-def is_path(tree):
+def is_path(tree: Any) -> bool:
     """Whether a tree is a list of counts, as a path in a tree is."""
     return isinstance(tree, list) and all(is_count(it) for it in tree)
 
@@ -91,7 +94,7 @@ FORMS = {
 WITH_EDIT = ("at", "stay", "switch", "mod")
 
 
-def form_fault(edit):
+def form_fault(edit: Any) -> str | None:
     """What is wrong with the form of a tree that should be an edit, or None where it is one."""
     if not isinstance(edit, list):
         return f"an edit is a list of primitives, and not {shown(edit)}"
@@ -110,7 +113,7 @@ def form_fault(edit):
     return None
 
 
-def act(ty, document, edit):
+def act(ty: Ty, document: Any, edit: Any) -> Any:
     """The document after an edit. Raises NotAnEdit, or NoApply with the number of the first primitive that does not act."""
     fault = form_fault(edit)
     if fault:

@@ -1,8 +1,11 @@
 """Scripts, stores and documents, with an explanation of all that is refused."""
 
+from __future__ import annotations
+
 import os
 import shutil
 import tempfile
+from typing import Iterable, Iterator
 
 from .answers import Refused
 from .causes import CAUSES, explain_refusal
@@ -19,13 +22,13 @@ __all__ = ["CAUSES", "explain_document", "explain_program", "explain_refusal", "
 EVENTS = ("edit", "seal", "send", "deliver", "restart")
 
 
-def explain_script(script, path=None):
+def explain_script(script: str, path: str | None = None) -> Iterator[str]:
     """The lines that explain every refusal of a script, of `run`, of a hub or of a link. Raises ProgramRefused."""
     with _session_of(script, path) as session:
         yield from _refusals(session, journal_of(script))
 
 
-def explain_store(folder, lines, path=None):
+def explain_store(folder: str, lines: Iterable[str], path: str | None = None) -> Iterator[str]:
     """The lines that explain every refusal of lines for the store in a folder. A copy of the store takes them, and the store stays."""
     file = Store(folder, path).file
     if not os.path.exists(file):
@@ -36,7 +39,7 @@ def explain_store(folder, lines, path=None):
             yield from _refusals(store, [it for it in lines if it.strip(" \t\r")])
 
 
-def explain_document(script, path=None):
+def explain_document(script: str, path: str | None = None) -> list[str]:
     """The lines that explain why `import` refuses the document of a script. Raises ProgramRefused."""
     left, lines = check(program_of(script), path)[0], journal_of(script)
     if len(lines) != 1:

@@ -1,6 +1,8 @@
 """Where a text stops being a lens program, and what is wanted there: the productions of docs/LANGUAGE.md, read one token at a time."""
 
-from .types import tokens
+from __future__ import annotations
+
+from .types import Token, tokens
 
 FIELD = "a field"
 NAME = "a name"
@@ -131,7 +133,7 @@ class _Reader:
         self.lens()
 
 
-def wanted_at(data):
+def wanted_at(data: bytes) -> tuple[Token, list[str]] | None:
     """The first token that does not fit, with what is wanted there; None where the text is a program. Nesting is not counted."""
     try:
         _Reader(data).program()

@@ -1,5 +1,7 @@
 """The lens of a program, read with every name expanded: docs/LANGUAGE.md has the form. The program itself says whether it is accepted."""
 
+from __future__ import annotations
+
 from dataclasses import dataclass
 
 from .types import Ty, TypeReader
@@ -132,6 +134,6 @@ class _Reader(TypeReader):
         return Row("both", left, right, self.lens())
 
 
-def read_lens(program_text):
+def read_lens(program_text: str) -> Lens:
     """The lens of a program that `check` accepts."""
     return _Reader(program_text).program()

@@ -4,7 +4,10 @@ The left document is built in full, and with it all that the right one shares. T
 lists that differ in length, or maps that differ in keys, are not aligned: the place is listed, and nothing inside is touched.
 """
 
+from __future__ import annotations
+
 from dataclasses import dataclass
+from typing import Any, Callable, Iterable, Sequence
 
 from .construct import replace_steps, set_steps, word_of, words_of
 from .documents import misfits
@@ -17,7 +20,7 @@ from .store import ImportRefused, Store
 class DoesNotFit(Exception):
     """A document that is not of its side's type: the side and every place."""
 
-    def __init__(self, side, places):
+    def __init__(self, side: str, places: Sequence[Any]) -> None:
         super().__init__(f"the {side} document does not fit:\n" + "\n".join(f"  {it}" for it in places))
         self.side, self.places = side, places
 
@@ -36,14 +39,14 @@ class Disagreement:
     path: tuple
     by_left: object
     found: object
-    show: object = shown
+    show: Callable[[Any], str] = shown
 
-    def said(self, side):
+    def said(self, side: str) -> str:
         """The place with both values, where `side` is what the left document is called."""
         by_left, found = ("nothing" if it is NOTHING else self.show(it) for it in (self.by_left, self.found))
         return f"{pointer(self.path) or '(the document)'}: by {side} {by_left}, here {found}"
 
-    def __str__(self):
+    def __str__(self) -> str:
         return self.said("the left document")
 
 
@@ -136,14 +139,15 @@ class Loaded:
     right: list
     disagreements: list
 
-    def lines(self):
+    def lines(self) -> list[str]:
         """The lines of a journal: the left document first, and then what the right one has for itself."""
         entries = [("left", word) for word in self.left] + [("right", word) for word in self.right]
         return [write_json({"side": side, "edit": word}) for side, word in entries]
 
-    def events(self):
+    def events(self) -> list[str]:
         """The events of a link: the left document is the first batch, and what the right one has for itself the second."""
-        told, packet = [], 0
+        told: list[Any] = []
+        packet = 0
         for side, words in (("left", self.left), ("right", self.right)):
             told += [{"edit": [side, word]} for word in words]
             if words or side == "left" and self.right:
@@ -152,19 +156,19 @@ class Loaded:
         return [write_json(it) for it in told]
 
 
-def load_words(program_text, left, right, path=None, start=None):
+def load_words(program_text: str, left: Any, right: Any, path: str | None = None, start: Callable[[], Any] | None = None) -> Loaded:
     """The edits that build the documents, as Loaded. Raises DoesNotFit and ProgramRefused. `start` makes each session, where it is given."""
     loader = _Loader(program_text, left, right, path, start)
     return Loaded(loader.left, loader.right, loader.disagreements)
 
 
-def load(program_text, left, right, path=None):
+def load(program_text: str, left: Any, right: Any, path: str | None = None) -> tuple[list[str], list[Disagreement]]:
     """The lines of a journal that builds the documents, and the disagreements. Raises DoesNotFit and ProgramRefused."""
     loaded = load_words(program_text, left, right, path)
     return loaded.lines(), loaded.disagreements
 
 
-def load_store(folder, program_text, left, right, path=None):
+def load_store(folder: str, program_text: str, left: Any, right: Any, path: str | None = None) -> list[Disagreement]:
     """Makes a store of two documents in a folder, and returns the disagreements.
 
     The left document is imported. If it is too long for a line, the store begins with the initial documents and is built by entries.
@@ -181,7 +185,7 @@ def load_store(folder, program_text, left, right, path=None):
     return loaded.disagreements
 
 
-def load_hub(hub, views, path=None):
+def load_hub(hub: Any, views: Iterable[tuple[str, Any]], path: str | None = None) -> tuple[list[str], list[tuple[int, Disagreement]]]:
     """The lines of a hub's journal that build a document and its views, each a program text with a document; and the disagreements.
 
     The hub decides what it shares with a view. The disagreements are pairs of the number of a view and a Disagreement.

@@ -74,8 +74,9 @@ class StoreLock:
 
     def need_same(self, path: str) -> None:
         """Raises UnsafeFile where the path of a store leads to another file than when the lock was taken: what is there now is not locked."""
-        if self._files[path] is not None:
-            need_same(path, self._files[path])
+        held = self._files[path]
+        if held is not None:
+            need_same(path, held)
         elif os.path.lexists(path):
             raise FileExistsError(f"{path} was made by another program meanwhile")
 

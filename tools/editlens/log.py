@@ -4,9 +4,12 @@ A `Log` reads a file as the program does. `found` reads on where the program sto
 byte.
 """
 
+from __future__ import annotations
+
 import json
 import os
 from dataclasses import dataclass
+from typing import Iterable, Iterator
 
 from .json_text import NotJson, read_json, write_json
 from .store_file import open_regular
@@ -22,7 +25,7 @@ FIRST_RECORDS = {"program": "program", "hub": "programs"}
 """The kinds of a first record, by its member beside the version: the program of a session, and those of the views of a hub."""
 
 
-def kind_of(payload):
+def kind_of(payload: bytes) -> str | None:
     """The kind of a record by the form of its payload, or None if it has that of no record. Its contents are not looked at."""
     try:
         tree = read_json(payload.decode())
@@ -37,27 +40,27 @@ def kind_of(payload):
     return next(iter(tree)) if len(tree) == 1 and set(tree) <= KINDS else None
 
 
-def is_change(payload):
+def is_change(payload: bytes) -> bool:
     """Whether a record is a change, which the program counts."""
     return kind_of(payload) in ("entry", "edit", "group")
 
 
-def escaped(text):
+def escaped(text: str) -> str:
     """A text with an escape of JSON for each character that a terminal would not show, or would obey."""
     return "".join(it if it.isprintable() else json.dumps(it)[1:-1] for it in text)
 
 
-def printable(data):
+def printable(data: bytes) -> str:
     """Bytes as text, with a ? for what a terminal would not show."""
     return "".join(it if it.isprintable() else "?" for it in data.decode(errors="replace"))
 
 
-def number_of(count, name):
+def number_of(count: int, name: str) -> str:
     """A count with the name of what is counted."""
     return f"{count} {name}" if count == 1 else f"{count} {name}s"
 
 
-def told(payload, most=100):
+def told(payload: bytes, most: int | None = 100) -> str:
     """What a record says, in a line of so many characters at most, or of any number if that is None."""
     kind = kind_of(payload)
     if kind is None:
@@ -97,12 +100,12 @@ class Span:
     length: int
 
     @property
-    def payload(self):
+    def payload(self) -> int:
         """The place of the payload."""
         return self.at + 1 + LENGTH
 
     @property
-    def end(self):
+    def end(self) -> int:
         """The place of the next gate."""
         return self.payload + self.length
 
@@ -123,7 +126,7 @@ class Log:
     that the store had at one moment, also if a program stores more of them meanwhile.
     """
 
-    def __init__(self, path):
+    def __init__(self, path: str) -> None:
         self._file = open_regular(path)
         try:
             self.has_mark = self.read(0, FIRST) == MARK
@@ -132,17 +135,17 @@ class Log:
             self.close()
             raise
 
-    def __enter__(self):
+    def __enter__(self) -> Log:
         return self
 
-    def __exit__(self, *_):
+    def __exit__(self, *_: object) -> None:
         self.close()
 
-    def close(self):
+    def close(self) -> None:
         """Closes the file."""
         self._file.close()
 
-    def read(self, at, count):
+    def read(self, at: int, count: int) -> bytes:
         """The bytes from a place on: fewer than `count` if the file ends."""
         parts = []
         while count:
@@ -154,7 +157,7 @@ class Log:
         return b"".join(parts)
 
     @property
-    def size(self):
+    def size(self) -> int:
         """How many bytes the file has now."""
         return os.fstat(self._file.fileno()).st_size
 
@@ -174,26 +177,26 @@ class Log:
         length = self.read(at + 1, LENGTH)
         return Span(at, int.from_bytes(length, "little")) if len(length) == LENGTH else None
 
-    def gate(self, at):
+    def gate(self, at: int) -> int:
         """The byte at a place."""
         return self.read(at, 1)[0]
 
-    def payload(self, span):
+    def payload(self, span: Span) -> bytes:
         """The payload of a record."""
         if span.length > MOST_READ:
             raise OSError(f"the record at byte {span.at} has {span.length:,} bytes, and a record has no more than {MOST_READ:,}")
         return self.read(span.payload, span.length)
 
-    def payloads(self, count=None):
+    def payloads(self, count: int | None = None) -> Iterator[bytes]:
         """The payloads of the first records, or of all."""
         return (self.payload(it) for it in self.spans[:count])
 
-    def length_at(self, at):
+    def length_at(self, at: int) -> int | None:
         """What the length behind a gate says, or None if the file ends in it."""
         span = self._span(at)
         return span and span.length
 
-    def found(self):
+    def found(self) -> Iterator[Found]:
         """The records that can be read, as Found, where a changed length or a changed gate is passed over."""
         at = FIRST
         while True:
@@ -235,7 +238,7 @@ class Log:
         return payload if kind_of(payload) and self.read(at + len(payload), 1) else None
 
 
-def write_log(path, payloads):
+def write_log(path: str, payloads: Iterable[bytes]) -> None:
     """Writes a new file with these records, and syncs it. The file must not be there."""
     with open(path, "xb") as file:
         file.write(MARK)
@@ -246,7 +249,7 @@ def write_log(path, payloads):
         os.fsync(file.fileno())
 
 
-def sync_folder(folder):
+def sync_folder(folder: str) -> None:
     """Syncs a folder, so that the names in it last."""
     held = os.open(folder, os.O_RDONLY)
     try:

@@ -1,8 +1,12 @@
 """Edits that name an item or a node by what it has: `{"where": {"id": "t7"}}` in place of a number or of a path."""
 
+from __future__ import annotations
+
+from typing import Any
+
 from .edits import act, form_fault, node_at, paths_of
 from .json_text import pointer, shown
-from .types import initial
+from .types import Ty, initial
 
 WITH_EDIT = ("at", "stay", "switch", "mod")
 
@@ -11,12 +15,12 @@ class NotFound(ValueError):
     """No place has what an edit names, or several have."""
 
 
-def with_places(ty, document, edit):
+def with_places(ty: Ty, document: Any, edit: Any) -> tuple[Any, list[Any]]:
     """The edit with every place by its position in the document now, and these positions in order: numbers of items, paths of nodes.
 
     Each primitive is resolved when those before it have acted. Raises NotFound, and NoApply or NotAnEdit where one does not act.
     """
-    places = []
+    places: list[Any] = []
     return _word(ty, document, edit, (), places), places
 
 

@@ -1,5 +1,7 @@
 """A store that is kept open: one run of `apply`, which holds the lock on the folder."""
 
+from __future__ import annotations
+
 import contextlib
 import dataclasses
 import itertools
@@ -9,6 +11,8 @@ import subprocess
 import tempfile
 import threading
 import time
+from types import TracebackType
+from typing import Any, Callable
 
 from .answers import Accepted, NotAnAnswer, RunEnded
 from .checked import check
@@ -28,7 +32,7 @@ TURNS = 4
 MARK = b"EDLENS1\n\x01"
 
 
-def stored_program(path):
+def stored_program(path: str) -> str:
     """The text of the lens program of a store: its first record, as docs/FORMATS.md has it."""
     with open_regular(path) as file:
         start = file.read(len(MARK) + 8)
@@ -41,27 +45,31 @@ def stored_program(path):
 class KeptRun:
     """A store that one run of `apply` keeps open. `_opened` reads what is known of it, `_taken` takes an answer over, and `_ended` the state."""
 
-    def __init__(self, store, wait=0.0, timeout=None):
+    _opened: Callable[[], None]
+    _taken: Callable[[bytes, Any], Any]
+    _ended: Callable[[Any], Any]
+
+    def __init__(self, store: Any, wait: float = 0.0, timeout: float | None = None) -> None:
         self.store, self.path, self.wait, self.timeout = store, store.path, wait, timeout
         self.lock = threading.RLock()
         self.stored, self._number, self._run = 0, 0, None
         self.reopen()
 
-    def __enter__(self):
+    def __enter__(self) -> Any:
         return self
 
-    def __exit__(self, kind, value, trace):
+    def __exit__(self, kind: type[BaseException] | None, value: BaseException | None, trace: TracebackType | None) -> None:
         if kind is None and self.is_open:
             self.close()
         else:
             self._leave()
 
     @property
-    def is_open(self):
+    def is_open(self) -> bool:
         """Whether a run keeps the store open."""
         return self._run is not None
 
-    def reopen(self):
+    def reopen(self) -> int:
         """Opens the store again, after a run that was lost or after `close`, and returns how many changes it has."""
         with self.lock:
             self._leave()
@@ -111,11 +119,11 @@ class KeptRun:
         self.stored = int(said.decode().removeprefix("consistent "))
         return state
 
-    def line(self, text):
+    def line(self, text: str) -> Any:
         """Sends a line of a journal that is not blank, and returns its answer: an Accepted, or a Refused that is not raised."""
         return self.answer(text)[1]
 
-    def answer(self, line):
+    def answer(self, line: str | bytes) -> tuple[str, Any]:
         """Sends a line that is not blank, as text or as bytes. Returns the line that answers it, as the program wrote it, and what it says.
 
         The program counts its lines anew in each run, the answer by those of this object.
@@ -137,15 +145,15 @@ class KeptRun:
             answer = self._taken(data, dataclasses.replace(answer, number=self._number))
             return said.rstrip("\n"), answer
 
-    def undo(self, count=1):
+    def undo(self, count: int = 1) -> Any:
         """Takes the last changes back, as `Store.undo` does: the run is closed for it, and another one is opened."""
         return self._between(lambda: self.store.undo(count))
 
-    def pack(self):
+    def pack(self) -> Any:
         """Stores a snapshot, as `Store.pack` does: the run is closed for it, and another one is opened."""
         return self._between(self.store.pack)
 
-    def close(self):
+    def close(self) -> Any:
         """Ends the run. Returns the state as the program writes it."""
         with self.lock:
             if not self._run:
@@ -205,7 +213,7 @@ class OpenStore(KeptRun, Editing):
     change that was sent is stored as well.
     """
 
-    def __init__(self, store, wait=0.0, timeout=None, forms=None):
+    def __init__(self, store: Any, wait: float = 0.0, timeout: float | None = None, forms: dict[str, Any] | None = None) -> None:
         self.types, self.documents, self.complement, self.program, self.files = {}, {}, None, "", None
         super().__init__(store, wait, timeout)
         try:
@@ -214,16 +222,16 @@ class OpenStore(KeptRun, Editing):
             self._leave()
             raise
 
-    def twin(self):
+    def twin(self) -> OpenStore:
         """Another open store in the same state: a copy of this one, in a folder of its own that goes when it is stopped."""
         return _Copy(self)
 
-    def close(self):
+    def close(self) -> Any:
         """Ends the run. Returns the state as the program writes it."""
         self.files.trial.stop()
         return super().close()
 
-    def compare(self):
+    def compare(self) -> None:
         """Compares the documents with those of the program, by `show`. Raises DocumentsDiffer."""
         with self.lock:
             self._ended(self.store.show())

@@ -1,7 +1,10 @@
 """Lines of JSON Patches for a store that is kept open, and the line that answers each."""
 
+from __future__ import annotations
+
 import sys
 import traceback
+from typing import Any
 
 from .answers import OTHER, Refused, RunEnded
 from .json_text import NotJson
@@ -24,10 +27,10 @@ class NotALine(ValueError):
 class PatchLines:
     """Answers lines by an open store. Of one side a line is a patch; of both it is an object with a patch, a group or an undo."""
 
-    def __init__(self, store, side, drop_private=False):
+    def __init__(self, store: Any, side: str, drop_private: bool = False) -> None:
         self.store, self.side, self.drop_private = store, side, drop_private
 
-    def answer(self, number, line):
+    def answer(self, number: int, line: bytes) -> tuple[str, bool]:
         """The answer to a line of bytes, and whether it is refused. What is refused has changed nothing.
 
         An exception that nobody foresaw is an answer, too: it says whether the change is stored. A run that is lost is raised.

@@ -4,6 +4,10 @@ A list or a map is copied at once, since it may be long. Where nodes of a tree g
 the old place that its content comes from.
 """
 
+from __future__ import annotations
+
+from typing import Any, Callable, Collection, Iterable, Sequence
+
 from .types import write_name
 
 MOST_DEPTH = 15
@@ -14,37 +18,37 @@ MANY = 8
 class NoPlan(Exception):
     """An edit that does not apply to a shape: the cause, and what would have been allowed."""
 
-    def __init__(self, cause, allowed):
+    def __init__(self, cause: str, allowed: str) -> None:
         super().__init__(f"{cause}; allowed: {allowed}")
         self.cause, self.allowed = cause, allowed
 
 
-def listed(names, write=write_name):
+def listed(names: Sequence[str], write: Callable[[str], str] = write_name) -> str:
     """The first of some names, and how many more there are."""
     some = ", ".join(map(write, names[:MANY]))
     return some + (f" and {len(names) - MANY} more" if len(names) > MANY else "")
 
 
-def quoted(name):
+def quoted(name: str) -> str:
     """A key or a member between quotes."""
     return f'"{name}"'
 
 
-def item_at(count, place):
+def item_at(count: int, place: int) -> int:
     """The place of an item, which is below the number of items."""
     if place >= count:
         raise NoPlan("place", f"items from 0 to {count - 1}" if count else "no item: the list is empty")
     return place
 
 
-def key_at(keys, key):
+def key_at(keys: Collection[str], key: str) -> str:
     """A key that a map has. `keys` are those of the map, in any order."""
     if key not in keys:
         raise NoPlan("place", f"the keys {listed(sorted(keys), quoted)}" if keys else "no key: the map is empty")
     return key
 
 
-def node_at(depths, path):
+def node_at(depths: list[int], path: Iterable[int]) -> int | None:
     """The number of the node at a path in preorder, or None."""
     node = 0
     for child in path:
@@ -55,7 +59,7 @@ def node_at(depths, path):
     return node
 
 
-def need_node(depths, path):
+def need_node(depths: list[int], path: Iterable[int]) -> int:
     """The number of the node at a path, which has to be there."""
     node = node_at(depths, path)
     if node is None:
@@ -63,7 +67,7 @@ def need_node(depths, path):
     return node
 
 
-def end_of(depths, node):
+def end_of(depths: list[int], node: int) -> int:
     """The number behind the last node of a subtree."""
     if not node:
         return len(depths)
@@ -73,21 +77,22 @@ def end_of(depths, node):
     return end
 
 
-def children_of(depths, node):
+def children_of(depths: list[int], node: int) -> list[int]:
     """The numbers of the children of a node."""
     wanted, first = depths[node] + 1, node + 1
     return [number for number, depth in enumerate(depths[first : end_of(depths, node)], first) if depth == wanted]
 
 
-def subtree(tree, path):
+def subtree(tree: dict[str, Any], path: Iterable[int]) -> list[tuple[int, Any]]:
     """The node at a path and all below it in preorder, each with its depth below that node and its content."""
-    depths, node = tree["depths"], node_at(tree["depths"], path)
+    depths, node = tree["depths"], need_node(tree["depths"], path)
     return [(depths[it] - depths[node], tree["items"][it]) for it in range(node, end_of(depths, node))]
 
 
-def paths_of(depths):
+def paths_of(depths: Iterable[int]) -> list[list[int]]:
     """The path of each node, in preorder."""
-    paths, children = [], []
+    paths: list[list[int]] = []
+    children: list[int] = []
     for depth in depths:
         del children[depth + 1 :]
         if len(children) <= depth:

@@ -5,7 +5,10 @@ answered acts on it, and the marks that are gone are what would be lost. A list 
 that is lost too where an item goes from before others that stay.
 """
 
+from __future__ import annotations
+
 from dataclasses import replace
+from typing import Any, Iterable, Iterator, Sequence
 
 from .answers import OTHER
 from .edits import act, paths_of
@@ -25,7 +28,7 @@ class PrivateLoss(Exception):
     `orders` are the places of lists that would lose an order of their own.
     """
 
-    def __init__(self, number, op, side, places, orders=()):
+    def __init__(self, number: int, op: dict[str, Any], side: str, places: Sequence[Any], orders: Sequence[Any] = ()) -> None:
         lost = [f"what it alone has at {', '.join(map(_named, places))}"] * bool(places)
         lost += [f"its own order of the items at {', '.join(map(_named, orders))}"] * bool(orders)
         told = f"operation {number}: by this {op['op']} of {op['path'] or 'the document'} the {side} side would lose "
@@ -37,7 +40,7 @@ def _named(place):
     return pointer(place) or "(the document)"
 
 
-def takes_away(word):
+def takes_away(word: list[Any]) -> bool:
     """Whether an edit takes anything away."""
     for primitive in word:
         name, body = next(iter(primitive.items()))
@@ -49,8 +52,9 @@ def takes_away(word):
 class Private:
     """What a side of a lens has for itself, by its type: the places, and the lists with an order of their own. `types` are those of both."""
 
-    def __init__(self, program, side, types):
-        mine, other, lists = (0, 1, {}) if side == "left" else (1, 0, {})
+    def __init__(self, program: str, side: str, types: dict[str, Ty]) -> None:
+        mine, other = (0, 1) if side == "left" else (1, 0)
+        lists: dict[Any, set[Any]] = {}
         pairs = ties(read_lens(program))
         kinds = {path: ty.kind for path, ty in places(types[OTHER[side]])}
         for pair in pairs:
@@ -59,14 +63,14 @@ class Private:
         self.ty, self.shared = types[side], {pair[mine] for pair in pairs}
         self.ordered = {path for path, ty in places(self.ty) if ty.kind == "list" and len(lists.get(path, ())) > 1}
 
-    def has_any(self):
+    def has_any(self) -> bool:
         """Whether it has anything for itself."""
         return bool(self.ordered) or any(self._is_private(ty, path) for path, ty in places(self.ty))
 
     def _is_private(self, ty, path):
         return ty.kind not in ("record", "unit") and not is_shared(ty, path, self.shared)
 
-    def lost(self, document, words, is_known=True):
+    def lost(self, document: Any, words: Iterable[Any], is_known: bool = True) -> tuple[list[Any], list[Any]]:
         """The places of the type whose private data words take from a document, and the places of lists that lose their own order.
 
         Where the document is known, what has its initial value is not lost, and no order is that nothing else has kept.
@@ -118,7 +122,7 @@ class Private:
         return {name: [body[0], [{"at": [ITEM, word]}] if path in self.ordered else word]}
 
 
-def inside(ty, value):
+def inside(ty: Any, value: Any) -> Iterator[tuple[Any, Any, Any, Any]]:
     """The places inside a document: the way of an edit there, the name of the place for a type, the type and the value."""
     if ty.kind in ("record", "alternatives"):
         primitive = "at" if ty.kind == "record" else "stay"

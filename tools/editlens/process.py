@@ -1,5 +1,7 @@
 """A run of the program as a co-process: a line goes in, and a line comes out."""
 
+from __future__ import annotations
+
 import os
 import select
 import subprocess
@@ -18,14 +20,16 @@ class Process:
     for that of another line. RunEnded is raised where the program ends before it answers, and NoAnswer, which is one, after a timeout.
     """
 
-    def __init__(self, words, folder=None, timeout=None):
+    def __init__(self, words: list[str], folder: str | None = None, timeout: float | None = None) -> None:
         self.timeout = timeout
         self.child = subprocess.Popen(words, cwd=folder, stdin=subprocess.PIPE, stdout=subprocess.PIPE, bufsize=0)
-        self._in, self._out = self.child.stdin.fileno(), self.child.stdout.fileno()
+        assert self.child.stdin and self.child.stdout, "both are pipes"
+        self._stdin = self.child.stdin
+        self._in, self._out = self._stdin.fileno(), self.child.stdout.fileno()
         os.set_blocking(self._in, False)
         self._come, self._is_ended = bytearray(), False
 
-    def ask(self, line):
+    def ask(self, line: bytes) -> str:
         """Sends a line, as bytes without its line feed, and returns the line that answers it, with its line feed."""
         self._exchange(line + b"\n", is_line_wanted=True)
         end = self._come.find(b"\n") + 1
@@ -35,14 +39,14 @@ class Process:
         del self._come[:end]
         return answer
 
-    def send(self, text):
+    def send(self, text: bytes) -> None:
         """Sends bytes that no line answers. Where the program ends without reading them, the next call says so."""
         self._exchange(text, is_line_wanted=False)
 
-    def end(self):
+    def end(self) -> tuple[int, list[str]]:
         """Ends the input. Returns the status of the program, and the lines that it still wrote."""
-        if not self.child.stdin.closed:
-            self.child.stdin.close()
+        if not self._stdin.closed:
+            self._stdin.close()
         deadline = self._deadline()
         while not self._is_ended:
             self._wait([(self._out, select.POLLIN)], deadline)
@@ -50,7 +54,7 @@ class Process:
         status = self._status()
         return status, lines_of(self._come)
 
-    def stop(self):
+    def stop(self) -> None:
         """Stops the program at once, where it still runs."""
         self.child.kill()
         self._status()

@@ -1,6 +1,9 @@
 """Stores made of documents that exist: of any JSON file, and of the documents of a store under another lens program."""
 
+from __future__ import annotations
+
 import os
+from typing import Any, Iterable, Iterator, Sequence, cast
 
 from .construct import set_steps, words_of
 from .documents import misfits
@@ -10,10 +13,10 @@ from .natural import read_file_at, read_form_at, to_document
 from .replacement import NotDone, Replacement
 from .session import check
 from .store import ImportRefused, Store
-from .types import initial, write_name
+from .types import Ty, initial, write_name
 
 
-def import_document(folder, program_text, document, path=None, wait=0.0):
+def import_document(folder: str, program_text: str, document: Any, path: str | None = None, wait: float = 0.0) -> Any:
     """Makes a store that begins with a left document of any size. Raises DoesNotFit with every place that does not fit, and NotDone."""
     left, _ = check(program_text, path)
     _must_fit("left", left, document)
@@ -51,9 +54,12 @@ class Fitting:
     refused.
     """
 
-    def __init__(self, ty, document, renames=()):
-        self.new, self.gone, self.renamed = {}, {}, {}
-        self.used, self._renames = set(), dict(renames)
+    def __init__(self, ty: Ty, document: Any, renames: Iterable[tuple[str, str]] = ()) -> None:
+        self.new: dict[Any, list[Any]] = {}
+        self.gone: dict[Any, list[Any]] = {}
+        self.renamed: dict[Any, list[Any]] = {}
+        self.used: set[str] = set()
+        self._renames = dict(renames)
         self.document = self._fit(ty, document, (), ())
 
     def _fit(self, ty, tree, path, place):
@@ -97,11 +103,11 @@ class Fitting:
                 return said, self._renames[said]
         return None, None
 
-    def new_paths(self):
+    def new_paths(self) -> set[Any]:
         """The paths of all new fields."""
         return {path for paths in self.new.values() for path in paths}
 
-    def lines(self, side, made):
+    def lines(self, side: str, made: Any) -> Iterator[str]:
         """What was changed, in lines: one for each place of the type. `made` is the document that came of it in the end."""
         for place, found in self.gone.items():
             yield from _gone_lines(side, place, found)
@@ -144,7 +150,7 @@ def _gone_lines(side, place, found):
         yield f"  and {len(found) - MOST_SHOWN:,} others"
 
 
-def value_at(tree, path):
+def value_at(tree: Any, path: Iterable[Any]) -> Any:
     """What a document has at a path, or None where the path leads to nothing."""
     for step in path:
         try:
@@ -154,7 +160,15 @@ def value_at(tree, path):
     return tree
 
 
-def change_lens(folder, program_text, documents=(None, None), is_accepted=False, path=None, wait=0.0, renames=()):
+def change_lens(
+    folder: str,
+    program_text: str,
+    documents: Sequence[Any] = (None, None),
+    is_accepted: bool = False,
+    path: str | None = None,
+    wait: float = 0.0,
+    renames: Iterable[tuple[str, str]] = (),
+) -> list[str]:
     """Makes a store of the same documents under another program. The old one is kept. Returns what was done, in lines.
 
     `documents` are a left and a right document in place of those of the store. New fields begin with their initial values, and `renames` are
@@ -177,7 +191,7 @@ def change_lens(folder, program_text, documents=(None, None), is_accepted=False,
         lines = [*fitted[0].lines("left", left), *fitted[1].lines("right", state[1]), *_first(replaced)]
         if (replaced or any(it.gone for it in fitted)) and not is_accepted:
             raise NotDone("\n".join([*lines, "nothing was changed: with --yes it is done so"]))
-        kept = made.put(state=state, keeps_old=True)
+        kept = cast(str, made.put(state=state, keeps_old=True))
         count = made.old.verify()
         lines.append(f"the store has the new program and its documents; the history begins anew, with a count of {count}")
         return [*lines, f"the old store is {os.path.basename(kept)}, until compact --drop-old"]
@@ -205,13 +219,13 @@ def _replaced(disagreements, right):
             yield f"right {it.said('the left document')}"
 
 
-def read_document(path):
+def read_document(path: str) -> Any:
     """The tree of a JSON file, with a byte order mark or without. Raises NotJson."""
     with open(path, "rb") as file:
         return read_json(file.read().decode("utf-8-sig"))
 
 
-def documents_at(program_text, paths, forms):
+def documents_at(program_text: str, paths: Iterable[str | None], forms: Iterable[str | None]) -> tuple[Any, ...]:
     """The documents of two files, or None for each that is not named. A file with a form file is a user's own, by the new types."""
     found = []
     for side, (path, form) in enumerate(zip(paths, forms)):

@@ -1,8 +1,11 @@
 """A new file for a store: made and verified beside it, and put in its place in one step."""
 
+from __future__ import annotations
+
 import os
 import shutil
 import time
+from typing import Any
 
 from .kinds import split
 from .lock import StoreLock
@@ -18,12 +21,12 @@ class NotDone(Exception):
     """What was asked for was not done, and the store is as it was. The text says why."""
 
 
-def dated():
+def dated() -> str:
     """The time of now, as a part of a name."""
     return time.strftime("%Y-%m-%dT%H%M%SZ", time.gmtime())
 
 
-def free_name(begin, end=""):
+def free_name(begin: str, end: str = "") -> str:
     """The first of `begin`, `begin-2`, `begin-3` and so on, each with `end`, that names no file."""
     number, path = 1, begin + end
     while os.path.lexists(path):
@@ -40,14 +43,14 @@ class Replacement:
     the next call takes away.
     """
 
-    def __init__(self, place, path=None, wait=0.0, kind=None):
+    def __init__(self, place: str, path: str | None = None, wait: float = 0.0, kind: Any = None) -> None:
         folder, kind = (place, kind) if kind else split(place)
         self.folder, self.work = folder, os.path.join(folder, WORK)
         self.old = kind(folder, path)
         self.new = type(self.old)(self.work, self.old.path)
         self._lock = StoreLock(folder, wait)
 
-    def __enter__(self):
+    def __enter__(self) -> Replacement:
         self._lock.take()
         try:
             self._clear()
@@ -57,7 +60,7 @@ class Replacement:
             raise
         return self
 
-    def __exit__(self, *_):
+    def __exit__(self, *_: object) -> None:
         self._clear()
         self._lock.give_back()
 
@@ -67,7 +70,7 @@ class Replacement:
         if os.path.lexists(self.work):
             shutil.rmtree(self.work)
 
-    def put(self, count=None, state=None, keeps_old=False):
+    def put(self, count: int | None = None, state: Any = None, keeps_old: bool = False) -> str | None:
         """Puts the new file in place. Returns the path under which the old one is kept, or None.
 
         The program has to verify it, with this count of changes and this state where they are given. Otherwise NotDone is raised.

@@ -1,7 +1,10 @@
 """What the scripts of tools/ have in common."""
 
+from __future__ import annotations
+
 import argparse
 import sys
+from typing import Any, Callable, NoReturn
 
 from .answers import ProgramRefused, RunEnded
 from .explain import explain_program
@@ -11,7 +14,7 @@ from .program import NoProgram
 from .version import version
 
 
-HOW = {
+HOW: dict[str, dict[str, Any]] = {
     "side": {"choices": ["left", "right"]},
     "which": {"choices": ["left", "right", "both"], "metavar": "SIDE"},
     "views": {"nargs": "+", "metavar": "PROGRAM VIEW"},
@@ -29,7 +32,7 @@ HOW = {
 }
 
 
-def words(about, *arguments):
+def words(about: str | None, *arguments: tuple[str, str]) -> argparse.Namespace:
     """The words of a command line: each argument is its name and its help. Some names have a form of their own."""
     parser = argparse.ArgumentParser(description=about, formatter_class=argparse.RawDescriptionHelpFormatter)
     for name, told in arguments:
@@ -38,7 +41,7 @@ def words(about, *arguments):
     return parser.parse_args()
 
 
-def read_text(path):
+def read_text(path: str) -> str:
     """The text of a file, with its line ends as they are, or of the standard input if the path is `-`. Ends with 2 if there is none."""
     try:
         if path == "-":
@@ -50,7 +53,7 @@ def read_text(path):
         sys.exit(2)
 
 
-def run(main, program_text):
+def run(main: Callable[[], Any], program_text: str) -> NoReturn:
     """Runs a script's work, and ends with its status. A refused program is explained, and ends with 3 as the program does; a busy store with 7."""
     try:
         sys.exit(main())

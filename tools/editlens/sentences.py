@@ -1,10 +1,14 @@
 """An edit in words, as a person reads them: a line for each change, with the place before it. Items and places count from 0."""
 
+from __future__ import annotations
+
+from typing import Any, Iterator
+
 from .json_text import shown, write_json
 from .types import write_name
 
 
-def sentences(edit, path=()):
+def sentences(edit: Any, path: tuple[str, ...] = ()) -> Iterator[str]:
     """A sentence for each change that an edit makes. An empty edit has none."""
     for primitive in edit:
         name, content = next(iter(primitive.items()))

@@ -1,7 +1,11 @@
 """A client: the program as a co-process. One line goes in, and one answer comes out."""
 
+from __future__ import annotations
+
 import threading
 from dataclasses import replace
+from types import TracebackType
+from typing import Any, Callable
 
 from .answers import Accepted, NotAnAnswer, Refused, RunEnded, read_answer
 from .causes import Before, explain_refusal
@@ -13,13 +17,13 @@ from .natural.files import Files
 from .parts import SEPARATOR, program_of
 from .process import Process
 from .program import find_program
-from .types import initial
+from .types import Ty, initial
 
 
 class DocumentsDiffer(Exception):
     """The documents that a client follows are not those of the program: one of the two does not follow docs/EDITS.md."""
 
-    def __init__(self):
+    def __init__(self) -> None:
         super().__init__("the documents that were followed are not those of the program")
 
 
@@ -30,31 +34,31 @@ class Run:
     than so many seconds ends the run, and NoAnswer is raised.
     """
 
-    def __init__(self, command, program_part, path, timeout=None):
+    def __init__(self, command: str, program_part: str, path: str, timeout: float | None = None) -> None:
         self.lock = threading.RLock()
         self.process = Process([path, command], timeout=timeout)
         self.process.send((program_part.rstrip("\n") + "\n" + SEPARATOR + "\n").encode())
 
-    def __enter__(self):
+    def __enter__(self) -> Any:
         return self
 
-    def __exit__(self, kind, value, trace):
+    def __exit__(self, kind: type[BaseException] | None, value: BaseException | None, trace: TracebackType | None) -> None:
         if kind is None:
             self.close()
         else:
             self.stop()
 
-    def stop(self):
+    def stop(self) -> None:
         """Stops the run at once. What it would still say is lost."""
         self.process.stop()
 
-    def said(self, text):
+    def said(self, text: str) -> str:
         """Sends a line that is not blank, and returns the line that answers it."""
         if "\n" in text or not text.strip(" \t\r"):
             raise ValueError("a line that is not blank, without a line feed, is wanted")
         return self.process.ask(text.encode())
 
-    def answered(self, text, read):
+    def answered(self, text: str, read: Callable[[str], Any]) -> Any:
         """Sends a line, and returns its answer, read by a function. What is no answer ends the run."""
         try:
             return read(self.said(text))
@@ -62,7 +66,7 @@ class Run:
             self.stop()
             raise
 
-    def state(self):
+    def state(self) -> list[str]:
         """Ends the run, and returns the lines of its state."""
         with self.lock:
             status, lines = self.process.end()
@@ -70,7 +74,7 @@ class Run:
             raise RunEnded(status)
         return lines
 
-    def close(self):
+    def close(self) -> Any:
         """Ends the run."""
         return self.state()
 
@@ -81,15 +85,24 @@ class Editing:
     `files` has the users' files of both sides, and takes patches of them.
     """
 
-    def left(self, edit):
+    lock: Any
+    types: dict[str, Ty]
+    documents: dict[str, Any]
+    files: Any
+
+    def line(self, text: str) -> Any:
+        """Sends a line of a journal that is not blank, and returns its answer: each kind of client has its own way."""
+        raise NotImplementedError
+
+    def left(self, edit: Any) -> Accepted:
         """Sends an edit of the left document."""
         return self.entry("left", edit)
 
-    def right(self, edit):
+    def right(self, edit: Any) -> Accepted:
         """Sends an edit of the right document."""
         return self.entry("right", edit)
 
-    def entry(self, side, edit):
+    def entry(self, side: str, edit: Any) -> Accepted:
         """Sends an edit of a side. It may name an item or a node by what it has: `{"where": {"id": "t7"}}` in place of a number or a path.
 
         Such a name is read by the document of this moment. The answer has the positions as `places`; NotFound is raised where there is no
@@ -99,18 +112,18 @@ class Editing:
             edit, places = with_places(self.types[side], self.documents[side], edit)
             return replace(self.accepted({"side": side, "edit": edit}), places=tuple(places))
 
-    def group(self, *entries):
+    def group(self, *entries: tuple[str, Any]) -> Accepted:
         """Sends entries, each a side and an edit, that are accepted together or not at all."""
         return self.accepted({"group": [{"side": side, "edit": edit} for side, edit in entries]})
 
-    def accepted(self, change):
+    def accepted(self, change: dict[str, Any]) -> Accepted:
         """Sends a change, and returns its answer; a Refused is raised."""
         answer = self.line(write_json(change))
         if isinstance(answer, Refused):
             raise answer
         return answer
 
-    def follow(self, change, answer):
+    def follow(self, change: dict[str, Any], answer: Accepted) -> None:
         """Takes an accepted change over into the documents."""
         documents = dict(self.documents)
         for entry, (other, word) in zip(change.get("group", [change]), answer.words):
@@ -119,7 +132,7 @@ class Editing:
         self.documents = documents
         self.files.trial.follow(change)
 
-    def explained(self, text, answer):
+    def explained(self, text: str, answer: Any) -> Any:
         """A refusal that explains itself by the documents of now."""
         before = Before("run", self.types, self.documents)
         answer.explain = lambda: explain_refusal(before, text, answer)
@@ -137,16 +150,23 @@ class Session(Editing, Run):
     `forms` has the form files of the sides, each a tree of JSON under "left" or "right": docs/TOOLS.md.
     """
 
-    def __init__(self, program_text, path=None, timeout=None, forms=None):
+    def __init__(
+        self,
+        program_text: str,
+        path: str | None = None,
+        timeout: float | None = None,
+        forms: dict[str, Any] | None = None,
+    ) -> None:
         self.path, self.program = path or find_program(), program_of(program_text)
         left, right = check(self.program, self.path)
         self.types = {"left": left, "right": right}
         self.documents = {side: initial(ty) for side, ty in self.types.items()}
-        self.complement, self._lines = None, []
+        self.complement: Any = None
+        self._lines: list[str] = []
         self.files = Files(self, forms)
         super().__init__("run", self.program, self.path, timeout)
 
-    def twin(self):
+    def twin(self) -> Session:
         """Another session in the same state: it takes the lines that this one has accepted."""
         twin = Session(self.program, self.path, self.process.timeout)
         for line in self._lines:
@@ -155,11 +175,11 @@ class Session(Editing, Run):
         twin.documents = self.documents
         return twin
 
-    def stop(self):
+    def stop(self) -> None:
         self.files.trial.stop()
         super().stop()
 
-    def line(self, text):
+    def line(self, text: str) -> Accepted | Refused:
         """Sends a line of a journal that is not blank, and returns its answer: an Accepted, or a Refused that is not raised."""
         with self.lock:
             answer = self.answered(text, read_answer)
@@ -169,7 +189,7 @@ class Session(Editing, Run):
             self.follow(read_json(text), answer)
             return answer
 
-    def close(self):
+    def close(self) -> tuple[Any, Any, Any]:
         """Ends the run. Returns the left document, the right document and the complement, as the program writes them."""
         self.files.trial.stop()
         state = dict(line.split(" ", 1) for line in self.state())

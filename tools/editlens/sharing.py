@@ -4,12 +4,17 @@ A place of a type is a tuple of steps: `("at", FIELD)`, `("stay", TAG)`, and `("
 that is tied to nothing is kept by its own document alone, and an edit there changes nothing on the other side.
 """
 
+from __future__ import annotations
+
+from typing import Any, Collection, Iterator
+
+from .lenses import Lens
 from .types import Ty
 
 INSIDE = ("mod",)
 
 
-def places(ty, path=()):
+def places(ty: Ty, path: tuple[Any, ...] = ()) -> Iterator[tuple[tuple[Any, ...], Ty]]:
     """Every place of a type, the outer ones first."""
     yield path, ty
     if ty.kind in ("record", "alternatives"):
@@ -20,7 +25,7 @@ def places(ty, path=()):
         yield from places(ty.inner, (*path, INSIDE))
 
 
-def ties(lens):
+def ties(lens: Lens) -> Any:
     """The pairs of a left and a right place that a lens ties."""
     return _TIES[lens.kind](lens)
 
@@ -76,13 +81,13 @@ _TIES = {
 }
 
 
-def shared_places(lens):
+def shared_places(lens: Lens) -> dict[str, set[Any]]:
     """The places of the left and of the right type that are tied to something on the other side."""
     pairs = ties(lens)
     return {"left": {left for left, _ in pairs}, "right": {right for _, right in pairs}}
 
 
-def is_shared(ty: Ty, path, shared):
+def is_shared(ty: Ty, path: tuple[Any, ...], shared: Collection[Any]) -> bool:
     """Whether the other side knows something of a place: of the value there, or of a field of the record there."""
     if ty.kind == "record" and ty.fields:
         return any(is_shared(inner, (*path, ("at", name)), shared) for name, inner in ty.fields)

@@ -1,11 +1,17 @@
 """Edits that are tried out on a second run of a session, before the first one gets them."""
 
+from __future__ import annotations
+
 from contextlib import contextmanager
+from typing import TYPE_CHECKING, Any, Iterable, Iterator, Sequence
 
 from .answers import OTHER, Refused, RunEnded
 from .construct import set_steps, words_of
 from .json_text import write_json
 from .private import Private, PrivateLoss, takes_away
+
+if TYPE_CHECKING:
+    from .natural.to_edit import Part
 
 MOST_PIECE = 100_000
 """About so many bytes of an edit are tried out in a line."""
@@ -14,7 +20,7 @@ MOST_PIECE = 100_000
 class TrialEnded(Exception):
     """The second run, on which an edit was tried out, could not be made or has ended. Nothing was sent."""
 
-    def __init__(self, why):
+    def __init__(self, why: object) -> None:
         super().__init__(f"the second run of the program, on which an edit is tried out, has ended, and nothing was sent: {why}")
 
 
@@ -25,25 +31,27 @@ class Trial:
     and made anew where it is needed again.
     """
 
-    def __init__(self, session):
-        self.session, self._twin, self._state, self._is_ahead = session, None, None, False
-        self._private = {}
+    def __init__(self, session: Any) -> None:
+        self.session, self._is_ahead = session, False
+        self._twin: Any = None
+        self._state: Any = None
+        self._private: dict[str, Private] = {}
 
-    def run(self):
+    def run(self) -> Any:
         """The twin, in the state of the session."""
         if self._twin is None or self._is_ahead or self._state is not self.session.documents:
             self.stop()
             self._twin, self._state = self.session.twin(), self.session.documents
         return self._twin
 
-    def stop(self):
+    def stop(self) -> None:
         """Stops the twin where there is one."""
         twin, self._twin, self._is_ahead = self._twin, None, False
         if twin:
             twin.stop()
 
     @contextmanager
-    def kept_in_step(self):
+    def kept_in_step(self) -> Iterator[None]:
         """For `with`: where what is tried out there does not come to the session, the twin is stopped."""
         try:
             yield
@@ -52,7 +60,7 @@ class Trial:
                 self.stop()
             raise
 
-    def follow(self, change):
+    def follow(self, change: Any) -> None:
         """Takes a change that the session has accepted. A twin that is ahead has taken it before."""
         self._state = self.session.documents
         try:
@@ -62,13 +70,13 @@ class Trial:
             self.stop()
         self._is_ahead = False
 
-    def private(self, side):
+    def private(self, side: str) -> Private:
         """What a side has for itself, as Private."""
         if side not in self._private:
             self._private[side] = Private(self.session.program, side, self.session.types)
         return self._private[side]
 
-    def carry(self, side, parts, keeps_private, is_begun=False):
+    def carry(self, side: str, parts: Iterable[Part], keeps_private: bool, is_begun: bool = False) -> dict[str, Any]:
         """Has the twin take the parts of a patch of a side, and returns both documents then. With `is_begun`, other patches came before.
 
         Raises PrivateLoss where the other side loses what it alone has, Refused, and TrialEnded.
@@ -84,7 +92,7 @@ class Trial:
             raise TrialEnded(why) from None
 
 
-def carry(twin, side, part, private, is_known=True):
+def carry(twin: Any, side: str, part: Part, private: Private | None, is_known: bool = True) -> None:
     """Sends a part of a patch, in pieces. Raises PrivateLoss where it takes what the other side alone has and does not say so."""
     before = twin.documents[OTHER[side]]
     words = [twin.entry(side, piece).word for piece in words_of(part.steps, MOST_PIECE)]
@@ -94,7 +102,7 @@ def carry(twin, side, part, private, is_known=True):
             raise PrivateLoss(part.number, part.ops[0], OTHER[side], places, orders)
 
 
-def need_no_loss(session, side, document, parts):
+def need_no_loss(session: Any, side: str, document: Any, parts: Sequence[Part]) -> None:
     """Raises PrivateLoss where the parts of a patch of a document may make the other side lose private data.
 
     `session` is one at its initial documents. The other document is not known, so all that its type has counts.

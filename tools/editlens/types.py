@@ -1,7 +1,10 @@
 """The types that `check` prints, read and written, and the tokens of a lens program."""
 
+from __future__ import annotations
+
 import re
 from dataclasses import dataclass, field
+from typing import Any, Iterator
 
 KEYWORDS = frozenset(
     "type lens main unit bool int text enum list keyed tree id bij disc then left right each part inv".split()
@@ -20,9 +23,11 @@ class Token:
     at: int
 
 
-def token_at(data, at):
+def token_at(data: bytes, at: int) -> Token:
     """The first token at or behind a number of bytes. Its sort is `bad` where no token begins there, and `end` at the end."""
-    at = _SPACE.match(data, at).end()
+    space = _SPACE.match(data, at)
+    assert space, "it matches everywhere"
+    at = space.end()
     if at == len(data):
         return Token("end", "", at)
     found = _TOKEN.match(data, at)
@@ -42,7 +47,7 @@ def token_at(data, at):
     return Token("mark", text, at)
 
 
-def tokens(data):
+def tokens(data: bytes) -> list[Token]:
     """The tokens of a text, up to its end or to the first bad one."""
     found, at = [], 0
     while True:
@@ -67,15 +72,15 @@ class Ty:
     start: object = field(default=None)
     written: tuple = field(default=(), compare=False, repr=False)
 
-    def field(self, name):
+    def field(self, name: Any) -> Any:
         """The type of a field or of a tag's content, or None."""
         return next((inner for it, inner in self.fields if it == name), None)
 
-    def names(self):
+    def names(self) -> list[str]:
         """The fields or tags."""
         return [name for name, _ in self.fields]
 
-    def __str__(self):
+    def __str__(self) -> str:
         return write_type(self)
 
 
@@ -86,36 +91,36 @@ class NotAType(ValueError):
 class TypeReader:
     """Reads types, token by token."""
 
-    def __init__(self, text):
+    def __init__(self, text: str) -> None:
         self.tokens = tokens(text.encode())
         self.next = 0
 
-    def take(self, *texts):
+    def take(self, *texts: str) -> bool:
         token = self.tokens[self.next]
         if token.sort != "string" and token.text in texts:
             self.next += 1
             return True
         return False
 
-    def need(self, text):
+    def need(self, text: str) -> None:
         if not self.take(text):
             raise NotAType(f"{text} is wanted at byte {self.tokens[self.next].at}")
 
-    def string(self):
+    def string(self) -> str:
         token = self.tokens[self.next]
         if token.sort != "string":
             raise NotAType(f"a string is wanted at byte {token.at}")
         self.next += 1
         return token.text[1:-1]
 
-    def number(self):
+    def number(self) -> int:
         token = self.tokens[self.next]
         if token.sort != "number":
             raise NotAType(f"a number is wanted at byte {token.at}")
         self.next += 1
         return int(token.text)
 
-    def name(self):
+    def name(self) -> str:
         token = self.tokens[self.next]
         if token.sort == "string":
             return self.string()
@@ -124,8 +129,8 @@ class TypeReader:
         self.next += 1
         return token.text
 
-    def fields(self, end):
-        found = []
+    def fields(self, end: str) -> list[tuple[str, Ty]]:
+        found: list[tuple[str, Ty]] = []
         if end == "}" and self.take(end):
             return found
         while True:
@@ -136,7 +141,7 @@ class TypeReader:
                 self.need(end)
                 return found
 
-    def type(self):
+    def type(self) -> Ty:
         if self.take("unit"):
             return Ty("unit")
         if self.take("bool"):
@@ -164,7 +169,7 @@ class TypeReader:
         raise NotAType(f"a type is wanted at byte {self.tokens[self.next].at}")
 
 
-def read_type(text):
+def read_type(text: str) -> Ty:
     """The type of a text without names of other types, as `check` prints it."""
     reader = TypeReader(text)
     found = reader.type()
@@ -173,7 +178,7 @@ def read_type(text):
     return found
 
 
-def read_types(text):
+def read_types(text: str) -> list[Ty]:
     """The types at the beginning of a text, with a space between them."""
     reader, found = TypeReader(text), []
     while reader.tokens[reader.next].sort != "end":
@@ -181,13 +186,13 @@ def read_types(text):
     return found
 
 
-def write_name(name):
+def write_name(name: str) -> str:
     """A field, a tag or a name as a program has it."""
     is_name = re.fullmatch(r"[A-Za-z_][A-Za-z0-9_]{0,63}", name) and name not in KEYWORDS
     return name if is_name else f'"{name}"'
 
 
-def write_type(ty):
+def write_type(ty: Any) -> str:
     """The canonical text of a type."""
     if ty.kind in ("unit", "bool"):
         return ty.kind
@@ -204,7 +209,7 @@ def write_type(ty):
     return f"{ty.kind} {write_type(ty.inner)}"
 
 
-def initial(ty):
+def initial(ty: Any) -> Any:
     """The initial document of a type."""
     if ty.kind == "record":
         return {name: initial(inner) for name, inner in ty.fields}
@@ -219,7 +224,7 @@ def initial(ty):
     return ty.start
 
 
-def differences(one, other, path=()):
+def differences(one: Any, other: Any, path: tuple[str, ...] = ()) -> Iterator[tuple[tuple[str, ...], Ty | None, Ty | None]]:
     """The places at which two types differ: paths with the two types there."""
     if one == other:
         return

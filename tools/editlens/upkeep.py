@@ -1,9 +1,12 @@
 """What one does with a store from day to day: its history, its size, an earlier state, copies of it."""
 
+from __future__ import annotations
+
 import glob
 import os
 import shutil
 import tempfile
+from typing import Any, Iterator, cast
 
 from .checkup import readable
 from .copies import snapshot_of, state_of
@@ -16,7 +19,7 @@ from .replacement import OLD, NotDone, Replacement, dated, free_name
 from .store import StoreRefused
 
 
-def opened(place):
+def opened(place: str) -> Log:
     """The log of the file of a store, whatever is in it. Raises NotDone if there is no file."""
     folder, kind = split(place)
     path = os.path.join(folder, kind.name)
@@ -26,7 +29,7 @@ def opened(place):
         raise NotDone(f"there is no store here: {path} does not exist") from None
 
 
-def must_be_whole(log):
+def must_be_whole(log: Log) -> None:
     """Raises StoreRefused, as the program does, if a file is not a complete log."""
     if not log.has_mark or not log.size > FIRST:
         raise StoreRefused("not-a-log")
@@ -34,7 +37,7 @@ def must_be_whole(log):
         raise StoreRefused(f"bad-record {len(log.spans) + 1}")
 
 
-def history(folder, is_full=False):
+def history(folder: str, is_full: bool = False) -> Iterator[str]:
     """A line for each record of a store: its number and what it says, cut after 100 characters unless `is_full`."""
     with opened(folder) as log:
         for number, payload in enumerate(log.payloads(), 1):
@@ -42,7 +45,7 @@ def history(folder, is_full=False):
         must_be_whole(log)
 
 
-def state_at(folder, number, path=None):
+def state_at(folder: str, number: int, path: str | None = None) -> Any:
     """What `show` says of the state after a record."""
     with opened(folder) as log:
         if not 1 <= number <= len(log.spans):
@@ -50,7 +53,7 @@ def state_at(folder, number, path=None):
         return state_of(log.payloads(number), path)
 
 
-def compact(folder, path=None, wait=0.0):
+def compact(folder: str, path: str | None = None, wait: float = 0.0) -> list[str]:
     """Makes a store of its program and one snapshot, with the same state. Returns what was done, in lines."""
     with Replacement(folder, path, wait) as made, opened(folder) as log:
         state, before = made.old.show(), log.size
@@ -59,7 +62,7 @@ def compact(folder, path=None, wait=0.0):
         after = os.path.getsize(made.new.file)
         if after >= before:
             raise NotDone(f"nothing is gained: the store has {before:,} bytes, and would have {after:,}")
-        kept = made.put(count=0, state=state, keeps_old=True)
+        kept = cast(str, made.put(count=0, state=state, keeps_old=True))
         return [
             f"{before:,} bytes in {len(log.spans)} records are {after:,} bytes in 2",
             f"given up: the history, undo, and the count of changes, which was {count} and is 0 now",
@@ -74,7 +77,7 @@ def _first_record(store, log):
     return write_json({"hub": stored_programs(store.file), "version": 1}).encode()
 
 
-def drop_old(place, path=None, wait=0.0):
+def drop_old(place: str, path: str | None = None, wait: float = 0.0) -> list[str]:
     """Removes the old files that were kept beside a store. The store itself has to be good. Returns their names."""
     folder, kind = split(place)
     with StoreLock(folder, wait):
@@ -86,7 +89,7 @@ def drop_old(place, path=None, wait=0.0):
     return [os.path.basename(it) for it in names]
 
 
-def back(folder, number, path=None, wait=0.0):
+def back(folder: str, number: int, path: str | None = None, wait: float = 0.0) -> list[str]:
     """Takes a store to its state after a record, as a new last snapshot. Returns what was done, in lines.
 
     All records of a store that is not refused stay. Of one that is refused, or cut short by a changed byte, the readable ones are kept
@@ -114,7 +117,7 @@ def back(folder, number, path=None, wait=0.0):
         return said + state_lines(state or made.old.show())
 
 
-def backup(place, to, path=None):
+def backup(place: str, to: str, path: str | None = None) -> tuple[str, int]:
     """Copies a store, also while a program writes to it. `to` is a new file, or a folder, in which the copy is named by its date.
 
     The copy has the records that the store had at one moment. Returns its path and its count of changes.
@@ -137,7 +140,7 @@ def backup(place, to, path=None):
     return to, count
 
 
-def restore(place, source, path=None, wait=0.0):
+def restore(place: str, source: str, path: str | None = None, wait: float = 0.0) -> list[str]:
     """Puts a copy in place of a store, or in a folder without one. Returns what was done, in lines."""
     with Log(source) as log:
         try:

@@ -1,11 +1,14 @@
 """The fields of a document in the order in which a lens program has them. The types that `check` prints have them by bytes."""
 
+from __future__ import annotations
+
+from .lenses import Lens
 from .types import Ty
 
 OTHER = {"left": "right", "right": "left"}
 
 
-def in_written_order(ty, lens, side):
+def in_written_order(ty: Ty, lens: Lens, side: str) -> Ty:
     """A type of a side with the names of its records in the order of the program. Where the program names none, they stay by bytes."""
     return _ordered(ty, _written(lens, side))
 

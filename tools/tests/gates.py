@@ -67,6 +67,18 @@ def test_a_gate_that_passes_ends_with_the_line_of_rt():
         assert (status, out) == (0, ["rt ci", "7 passed, 0 failed"]) and len(err) == 1 and err[0].startswith("the checks took "), (out, err)
 
 
+def test_a_machine_without_python_gets_it_before_rt_runs():
+    """rt is written in Python. Where there is one, the packages are installed while rt proves."""
+    with folder_with(".ci/run") as folder:
+        write(os.path.join(folder, "bin", "rt"), "command -v python3 >/dev/null || exit 9; echo '7 passed, 0 failed'")
+        write(os.path.join(folder, "dev/setup"), f"sleep 0.2; ln -s /bin/true {folder}/bin/python3; echo 'missing: strace, calls'; exit 3")
+        write(os.path.join(folder, "bindings/behind_gate"), "exit 0")
+        for name in ("docs/check", "tools/check"):
+            write(os.path.join(folder, name), "echo all is well")
+        status, out, err = run(folder, "bash", ".ci/run", CI="true")
+        assert (status, out) == (0, ["7 passed, 0 failed"]) and err[0] == "missing: strace, calls", (status, out, err)
+
+
 def test_a_gate_fails_with_rt_and_with_each_check():
     status, out, err = gate(rt=3)
     assert (status, out, err) == (3, ["rt ci", "7 passed, 0 failed"], []), (status, err)

@@ -1,6 +1,5 @@
 """The files around the program that say again what the pages say: the manual page, completion, highlighters and the changelog."""
 
-import ast
 import json
 import os
 import re
@@ -16,12 +15,12 @@ from . import Skipped
 
 sys.path.insert(0, os.path.join(TOP, "dev"))
 
+from repository.hints import lacking, untyped  # noqa: E402
 from repository.manual import HUBS, PAGE, manual, version  # noqa: E402
 from repository.pages import read_page, roff, section, table_with  # noqa: E402
-from repository.tools import tools  # noqa: E402
+from repository.tools import named, tools, verbs  # noqa: E402
 
 NEEDS_PROGRAM = False
-TYPED = ("answers", "documents", "hub", "hub_store", "json_text", "link", "lock", "parts", "program", "store", "version")
 
 
 def commands(heading="Commands"):
@@ -50,15 +49,15 @@ def completed(*words):
 
 
 def test_completion_knows_every_command_and_every_tool():
-    verbs = {"history", "compact", "back", "backup", "restore", "change-lens"}
-    assert completed("./editlens", "''") == commands() | set(tools()) | verbs | {"hub-store", "--help", "--version"}
+    of_store, own = set(verbs()), set(verbs()) - {"check", "import"}
+    assert completed("./editlens", "''") == commands() | set(named()) | own | {"hub-store", "--help", "--version"}
     assert completed("./edithub", "''") == commands(HUBS) | {"--help", "--version"}
     assert completed("./editlens", "hub-store", "''") == commands(HUBS)
-    assert completed("./editlens", "store", "''") == verbs | {"check", "import"}
+    assert completed("./editlens", "store", "''") == of_store
     assert completed("./editlens", "un") == {"undo"}
-    of_editlens, of_edithub = read_page("completions/_editlens").split("hub_commands=(")
-    assert set(re.findall(r"(?m)^    '(\w+):", of_editlens)) == commands()
-    assert set(re.findall(r"(?m)^    '(\w+):", of_edithub)) == commands(HUBS)
+    page = read_page("completions/_editlens")
+    lists = {name: set(re.findall(r"'([\w-]+):", body)) for name, body in re.findall(r"(?s)(\w+)=\(\n(.*?)\n\)", page)}
+    assert lists == {"commands": commands(), "hub_commands": commands(HUBS), "verbs": own}, lists
 
 
 def test_the_manual_page_has_no_fault_of_form():
@@ -67,7 +66,7 @@ def test_the_manual_page_has_no_fault_of_form():
     ran = subprocess.run(["mandoc", "-T", "lint", "-W", "error", PAGE], cwd=TOP, stdout=subprocess.PIPE, stderr=subprocess.STDOUT, text=True, check=False)
     assert (ran.returncode, ran.stdout) == (0, ""), ran.stdout
     page = read_page(PAGE)
-    assert all(f"\\fB{it}".replace("-", "\\-") in page for it in (*tools(), *commands(HUBS))), "a tool or a command is missing"
+    assert all(f"\\fB{it}".replace("-", "\\-") in page for it in (*named(), *commands(HUBS))), "a tool or a command is missing"
 
 
 def test_highlighters_know_every_keyword():
@@ -105,9 +104,11 @@ def test_sentences_are_short():
     assert ran.returncode == 0, ran.stdout
 
 
-def test_the_tools_print_the_version():
-    ran = subprocess.run([sys.executable, os.path.join(TOP, "tools", "fits"), "--version"], stdout=subprocess.PIPE, text=True)
-    assert (ran.returncode, ran.stdout) == (0, f"editlens {version()}\n"), ran
+def test_the_tools_print_the_version_and_what_they_do():
+    for name in tools():
+        for word, wanted in (("--version", f"editlens {version()}\n"), ("--help", f"usage: {name} ")):
+            ran = subprocess.run([sys.executable, os.path.join(TOP, "tools", name), word], stdout=subprocess.PIPE, text=True)
+            assert ran.returncode == 0 and ran.stdout.startswith(wanted), ran
 
 
 def test_the_changelog_has_the_version():
@@ -116,13 +117,10 @@ def test_the_changelog_has_the_version():
 
 
 def test_public_functions_have_hints_of_types():
-    """Those of the modules for whoever keeps documents in Python. docs/check asks mypy whether they are right."""
-    modules = [f"tools/editlens/{it}.py" for it in TYPED] + [f"bindings/python/{it}.py" for it in ("editlens_library", "editlens_hub")]
-    lacking = []
-    for path in modules:
-        for it in ast.walk(ast.parse(read_page(path))):
-            if isinstance(it, ast.FunctionDef) and not it.name.startswith("_"):
-                given = [*it.args.posonlyargs, *it.args.args, *it.args.kwonlyargs]
-                if it.returns is None or any(each.annotation is None for each in given if each.arg not in ("self", "cls")):
-                    lacking.append(f"{path}: {it.name}")
-    assert not lacking, lacking
+    """docs/check asks mypy whether they are right."""
+    assert lacking() == []
+    text = "def a(b: int, *c) -> int: ...\nasync def d(): ...\ndef _e(f): ...\ndef g(h: int) -> int:\n    def i(j): ...\n"
+    text += "class K:\n    def l(self, m): ...\n    def _n(self, o): ...\n    def __p__(self) -> None: ...\n"
+    text += "    @classmethod\n    def q(cls) -> int: ...\nclass _R:\n    def s(self, t): ...\n"
+    text += "class U:\n    class V:\n        def w(self, self_too) -> int: ...\ndef x(self) -> int: ...\n"
+    assert untyped(text) == ["a", "d", "K.l", "U.V.w", "x"]

@@ -83,6 +83,20 @@ def test_records_of_each_kind():
     assert told(b'{"program":"main  id int"}', 20) == "program main  id int" and told(b'{"version":2,"x":1}', 19) == 'not a record: {"v..'
 
 
+def test_a_stored_program_of_any_length():
+    """`init` reads a program of 65,536 bytes at most, and a record may have a longer one: here by a comment, and by its definitions."""
+    names = [f"t{number}" for number in range(4000)]
+    longer = "".join(f"type {it} = int;\n" for it in names) + f"main {{a ~ b: id {names[-1]}}}"
+    with tempfile.TemporaryDirectory() as folder:
+        for text in (f"# {'x' * 200_000}\n{PROGRAM}", longer):
+            assert len(text) > 65_536
+            refused = subprocess.run([Store(folder).path, "init"], input=text, cwd=folder, capture_output=True, text=True, check=False)
+            assert refused.stdout == "program refused: program-too-long\n", refused
+            store = placed(folder, [json.dumps({"program": text, "version": 2}).encode(), SET])
+            assert store.verify() == 1 and store.show()[:2] == ({"a": 5}, {"b": 5})
+            os.remove(store.file)
+
+
 def test_an_altered_length():
     """In bounds and out of them: the payload shows how long the record is, and nothing is lost."""
     for place, byte, said in ((64, 200, "200"), (64, 7, "7"), (66, 9, "589,883")):

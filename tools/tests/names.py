@@ -4,6 +4,7 @@ import contextlib
 import fcntl
 import json
 import os
+import stat
 import subprocess
 import tempfile
 import threading
@@ -15,7 +16,7 @@ from editlens.log import told, write_log
 from editlens.program import TOP
 from editlens.replacement import WORK, NotDone
 from editlens.store import NAME, Store, StoreRefused
-from editlens.store_file import UnsafeFile
+from editlens.store_file import UnsafeFile, need_one_name
 from editlens.upkeep import back, compact, drop_old, history
 
 from . import PATIENCE
@@ -265,3 +266,12 @@ def test_a_record_that_claims_more_than_the_file_has():
                 ran = subprocess.run(limited, cwd=store.folder, stdout=subprocess.PIPE, text=True, check=False)
                 assert (ran.returncode, ran.stdout) == (4, "store refused: bad-record 3\n"), (length, ran)
             assert raised(StoreRefused, lambda: list(history(store.folder))).reason == "bad-record 3"
+
+
+def test_a_mounted_file_whose_name_leads_to_another_one():
+    """A tool has put a new file in the place of the one that is mounted. What is known of such a mount is that its file has no name."""
+    with two_folders() as (store, _):
+        gone = os.stat_result((stat.S_IFREG, 1, 1, 0, *[0] * 6))
+        with mock.patch("os.lstat", return_value=gone):
+            assert "mount that one anew" in str(raised(UnsafeFile, lambda: need_one_name(store.file)))
+        assert need_one_name(store.file).st_nlink == 1

@@ -16,7 +16,7 @@ sys.path.insert(0, os.path.join(TOP, "dev"))
 
 from repository.manual import EXAMPLE as MANUAL_EXAMPLE  # noqa: E402
 from repository.package import Built, archive, install  # noqa: E402
-from repository.tools import tools  # noqa: E402
+from repository.tools import named, tools  # noqa: E402
 
 EXAMPLE = os.path.join(TOP, "examples", "tasks")
 PLAIN = {"PATH": "/usr/bin:/bin"}
@@ -71,7 +71,7 @@ def test_a_program_is_installed_over_another():
             assert script == os.path.join(room, "prefix", "bin", "editlens"), "a folder bin means the folder above it"
             copy = os.path.join(room, "prefix", "lib", "editlens", "editlens-program")
             assert subprocess.run([copy], stdout=subprocess.PIPE, text=True, check=True).stdout == said + "\n"
-            assert sorted(os.listdir(os.path.dirname(copy))) == ["VERSION", "editlens-program", "tools"]
+            assert sorted(os.listdir(os.path.dirname(copy))) == ["VERSION", "bindings", "editlens-program", "service", "tools"]
 
 
 def test_edithub_is_installed_beside_the_tools():
@@ -119,8 +119,13 @@ def test_an_archive_has_what_is_installed_and_says_what_is_proved():
         with open(os.path.join(root, "PROVED"), encoding="utf-8") as file:
             assert "not proved by this build" in file.read()
         assert "fits" in tools() and "check" not in tools()
-        for name in ("lib/editlens/editlens-program", "lib/editlens/edithub-program", "bin/editlens", "bin/edithub", *(f"bin/editlens-{it}" for it in tools())):
+        programs = ("lib/editlens/editlens-program", "lib/editlens/edithub-program", "bin/editlens", "bin/edithub")
+        for name in (*programs, *(f"bin/editlens-{it}" for it in named())):
             assert os.access(os.path.join(root, name), os.X_OK), name
+        assert sorted(os.listdir(os.path.join(root, "lib/editlens/service")))[0] == "README.md"
+        assert not any(os.path.exists(os.path.join(root, "lib/editlens/service", name)) for name in ("check", "example", "tests"))
+        for name in ("service/schema/001_tables.sql", "service/openapi.json", "bindings/python/editlens_hub.py"):
+            assert os.path.getsize(os.path.join(root, "lib/editlens", name)), name
         for name in ("share/man/man1/editlens.1", "share/zsh/site-functions/_editlens", "examples/tasks.out", "LICENSE", "INSTALL"):
             assert os.path.getsize(os.path.join(root, name)), name
         assert archive(built) == (os.path.basename(path), data), "two archives of the same files differ"

@@ -1,5 +1,6 @@
 """The example of a store behind a queue, killed at several moments. Redis (Debian's redis-server) is wanted, or all is skipped."""
 
+import json
 import os
 import random
 import subprocess
@@ -8,6 +9,7 @@ import tempfile
 import time
 from contextlib import contextmanager
 
+from editlens.lines import lines_of
 from editlens.program import TOP
 from editlens.store import Store
 
@@ -36,7 +38,7 @@ def of_one_run(given):
     with tempfile.TemporaryDirectory() as folder:
         Store.init(folder, program())
         said = subprocess.run([os.environ["EDITLENS"], "apply"], cwd=folder, input="\n".join(given) + "\n", capture_output=True, text=True, check=False)
-    return said.stdout.splitlines()[:-3], said.stdout.splitlines()[-3:]
+    return lines_of(said.stdout)[:-3], lines_of(said.stdout)[-3:]
 
 
 class Queue:
@@ -71,7 +73,7 @@ class Queue:
     def is_whole(self):
         """Whether the answers and the store are those of one run over all edits."""
         answers, state = of_one_run(self.given)
-        shown = subprocess.run([self.store.path, "show"], cwd=self.folder, stdout=subprocess.PIPE, text=True, check=True).stdout.splitlines()
+        shown = lines_of(subprocess.run([self.store.path, "show"], cwd=self.folder, stdout=subprocess.PIPE, text=True, check=True).stdout)
         accepted = sum(it.startswith("ok ") for it in answers)
         return self.answers() == answers and shown == state and self.store.verify() == accepted
 
@@ -93,6 +95,20 @@ def test_a_queue_is_answered():
         assert said == ["not-an-entry", "not-an-entry", "line-too-long", "right []", "group []"], said
         answers, _ = of_one_run(lines())
         assert here.answers()[:-5] == answers
+
+
+def test_characters_that_end_no_line():
+    """A text has characters at which Python cuts lines. The keeper answers, begins again over what it has stored, and answers more."""
+    odd = "\x85\u2028\u2029"
+    put = {"side": "left", "edit": [{"at": ["orders", [{"put": odd}, {"mod": [odd, [{"at": ["customer", [{"set": odd}]]}]]}]]}]}
+    print_at = {"side": "right", "edit": [{"at": ["printer", [{"set": odd}]]}]}
+    with queue([json.dumps(it, ensure_ascii=False) for it in (put, print_at)]) as here:
+        here.ends()
+        assert here.is_whole() and here.store.show()[1]["printer"] == odd
+        here.given.append(lines()[0])
+        here.server.send(NAME, here.given[2:])
+        here.ends()
+        assert here.is_whole()
 
 
 def test_killed_between_the_store_and_the_answer():

@@ -26,7 +26,7 @@ from repository.deb import program_package  # noqa: E402
 from repository.image import image  # noqa: E402
 from repository.package import Built  # noqa: E402
 from repository.release import release  # noqa: E402
-from repository.tools import tools  # noqa: E402
+from repository.tools import OF_SERVICE, tools  # noqa: E402
 from repository.wheel import wheel  # noqa: E402
 
 EXAMPLE = os.path.join(TOP, "examples", "tasks")
@@ -117,6 +117,8 @@ def test_the_package_for_debian():
         with open(os.path.join(root, "usr/share/doc/editlens/PROVED"), encoding="utf-8") as file:
             assert "not proved by this build" in file.read()
         assert os.path.exists(os.path.join(root, "usr/share/bash-completion/completions/edithub"))
+        assert field(path, "Recommends") == "python3-aiohttp, python3-asyncpg"
+        assert all(os.access(os.path.join(root, f"usr/bin/editlens-{name}"), os.X_OK) for name in OF_SERVICE)
 
 
 def test_the_wheel_for_python():

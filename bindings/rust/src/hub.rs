@@ -1,6 +1,6 @@
 //! One document that is kept in step with many views.
-use crate::{item_cause, raw, Answer, Error};
-use std::alloc::{alloc, dealloc, handle_alloc_error, Layout};
+use crate::{item_cause, raw, room_for, Answer, Error};
+use std::alloc::{dealloc, Layout};
 use std::fmt;
 use std::ptr::{null_mut, NonNull};
 
@@ -66,16 +66,15 @@ impl Hub {
         Hub::made(|at| unsafe { raw::editlens_hub_resume(at, programs.as_ptr(), programs.len(), state.as_ptr(), state.len()) })
     }
 
-    fn made(open: impl FnOnce(*mut u8)) -> Result<Hub, Error> {
-        let layout = Layout::from_size_align(unsafe { raw::editlens_hub_size() }, 16).unwrap();
-        let Some(at) = NonNull::new(unsafe { alloc(layout) }) else { handle_alloc_error(layout) };
-        open(at.as_ptr());
+    fn made(open: impl FnOnce(*mut u8) -> u32) -> Result<Hub, Error> {
+        let (at, layout) = room_for(unsafe { raw::editlens_hub_size() });
+        let status = open(at.as_ptr());
         let mut hub = Hub { at, layout };
-        let answer = unsafe { raw::editlens_hub_status(hub.at.as_ptr()) };
-        match answer.status {
-            raw::DONE => Ok(hub),
-            _ => Err(hub.error(answer)),
+        if status != raw::DONE {
+            let answer = unsafe { raw::editlens_hub_status(hub.at.as_ptr()) };
+            return Err(hub.error(answer));
         }
+        Ok(hub)
     }
 
     /// Takes a line of a hub's journal, without its line feed.

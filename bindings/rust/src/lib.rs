@@ -19,7 +19,7 @@
 //! A session stays on the thread that opened it, so it is not `Send`; open as many sessions in as many threads as you like. The library is
 //! proved to keep to the header, but this crate is only tested.
 
-use std::alloc::{alloc, dealloc, handle_alloc_error, Layout};
+use std::alloc::{alloc_zeroed, dealloc, handle_alloc_error, Layout};
 use std::fmt;
 use std::ptr::{null_mut, NonNull};
 
@@ -199,13 +199,12 @@ impl Session {
         })
     }
 
-    fn made(open: impl FnOnce(*mut u8)) -> Result<Session, Error> {
-        let layout = Layout::from_size_align(unsafe { raw::editlens_session_size() }, 16).unwrap();
-        let Some(at) = NonNull::new(unsafe { alloc(layout) }) else { handle_alloc_error(layout) };
-        open(at.as_ptr());
+    fn made(open: impl FnOnce(*mut u8) -> u32) -> Result<Session, Error> {
+        let (at, layout) = room_for(unsafe { raw::editlens_session_size() });
+        let status = open(at.as_ptr());
         let mut session = Session { at, layout, opening: String::new() };
-        let answer = unsafe { raw::editlens_session_status(session.at.as_ptr()) };
-        if answer.status != raw::DONE {
+        if status != raw::DONE {
+            let answer = unsafe { raw::editlens_session_status(session.at.as_ptr()) };
             return Err(session.error(answer));
         }
         session.opening = session.text();
@@ -316,6 +315,18 @@ impl Session {
             _ => Error::NoMemory,
         }
     }
+}
+
+/// Memory of 0 for a session or a hub of this size.
+///
+/// # Panics
+///
+/// If the library that is linked has another interface than this crate is written for.
+fn room_for(size: usize) -> (NonNull<u8>, Layout) {
+    assert_eq!(unsafe { raw::editlens_version() }, raw::VERSION, "libeditlens has another interface than this crate");
+    let layout = Layout::from_size_align(size, 16).unwrap();
+    let Some(at) = NonNull::new(unsafe { alloc_zeroed(layout) }) else { handle_alloc_error(layout) };
+    (at, layout)
 }
 
 impl Drop for Session {

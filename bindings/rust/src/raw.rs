@@ -9,6 +9,9 @@ pub struct Answer {
     pub part: u64,
     pub at: u64,
     pub len: usize,
+    pub size: u64,
+    pub spare_1: u64,
+    pub spare_2: u64,
 }
 
 pub const DONE: u32 = 0;
@@ -20,6 +23,8 @@ pub const LINE_FEED: u32 = 8;
 pub const FULL: u32 = 10;
 pub const RECORDS_REFUSED: u32 = 11;
 pub const NO_CHANGE: u32 = 12;
+
+pub const VERSION: u32 = 2;
 
 pub const STATE: u32 = 0;
 pub const LEFT: u32 = 1;
@@ -61,10 +66,12 @@ pub const NOT_HUB: u32 = 65;
 pub const NOT_VIEW: u32 = 66;
 
 extern "C" {
+    pub fn editlens_version() -> u32;
+
     pub fn editlens_session_size() -> usize;
-    pub fn editlens_session_open(at: *mut u8, program: *const u8, program_len: usize);
-    pub fn editlens_session_import_left(at: *mut u8, program: *const u8, program_len: usize, document: *const u8, document_len: usize);
-    pub fn editlens_session_import_right(at: *mut u8, program: *const u8, program_len: usize, document: *const u8, document_len: usize);
+    pub fn editlens_session_open(at: *mut u8, program: *const u8, program_len: usize) -> u32;
+    pub fn editlens_session_import_left(at: *mut u8, program: *const u8, program_len: usize, document: *const u8, document_len: usize) -> u32;
+    pub fn editlens_session_import_right(at: *mut u8, program: *const u8, program_len: usize, document: *const u8, document_len: usize) -> u32;
     pub fn editlens_session_resume(
         at: *mut u8,
         program: *const u8,
@@ -75,20 +82,20 @@ extern "C" {
         complement_len: usize,
         right: *const u8,
         right_len: usize,
-    );
-    pub fn editlens_session_reopen(at: *mut u8, records: *const u8, records_len: usize);
+    ) -> u32;
+    pub fn editlens_session_reopen(at: *mut u8, records: *const u8, records_len: usize) -> u32;
     pub fn editlens_session_status(at: *mut u8) -> Answer;
     pub fn editlens_session_step(at: *mut u8, line: *const u8, line_len: usize) -> Answer;
     pub fn editlens_session_show(at: *mut u8, part: u32) -> Answer;
     pub fn editlens_session_text(at: *mut u8, out: *mut u8, out_len: usize) -> Answer;
-    pub fn editlens_session_close(at: *mut u8);
+    pub fn editlens_session_close(at: *mut u8) -> u32;
 
     pub fn editlens_hub_size() -> usize;
-    pub fn editlens_hub_open(at: *mut u8, programs: *const u8, programs_len: usize);
-    pub fn editlens_hub_resume(at: *mut u8, programs: *const u8, programs_len: usize, state: *const u8, state_len: usize);
+    pub fn editlens_hub_open(at: *mut u8, programs: *const u8, programs_len: usize) -> u32;
+    pub fn editlens_hub_resume(at: *mut u8, programs: *const u8, programs_len: usize, state: *const u8, state_len: usize) -> u32;
     pub fn editlens_hub_status(at: *mut u8) -> Answer;
     pub fn editlens_hub_step(at: *mut u8, line: *const u8, line_len: usize) -> Answer;
     pub fn editlens_hub_show(at: *mut u8, part: u32, view: u64) -> Answer;
     pub fn editlens_hub_text(at: *mut u8, out: *mut u8, out_len: usize) -> Answer;
-    pub fn editlens_hub_close(at: *mut u8);
+    pub fn editlens_hub_close(at: *mut u8) -> u32;
 }

@@ -8,7 +8,7 @@ use Rattle.doc_values.specs.Types.{FieldTrees, no_fields, more_fields, height, h
 use Rattle.program_terms.specs.Terms as Term
 use Rattle.lens_forms.specs.Forms.{FormTree, form_id, form_bij, form_disc, form_then, form_rec, form_alt, form_each, form_keyed, form_ordered, form_part, form_inv, ArmTrees, no_arms, more_arms, left_type, right_type}
 use Rattle.lens_forms.specs.declared.limits.TheConstants.{GREATEST_HEIGHT}
-use Rattle.lens_types.specs.Earlier.{KnownTree, known_type, known_lens, Definitions, known, form_of_known, form_named, alternatives, partition, expanded_type, expanded_fields, expanded_form, expanded_rows, expanded_arms}
+use Rattle.lens_types.specs.Earlier.{KnownTree, known_type, known_lens, Definitions, known, form_of_known, form_named, alternatives_form, partition, expanded_type, expanded_fields, expanded_form, expanded_rows, expanded_arms}
 use Rattle.lens_types.specs.Checking.{type_failure, lens_failure, rows_failure, arms_failure, written_height, rows_written, arms_written}
 use Rattle.lens_types.proofs.SoundForms.{none_both, are_sound, lens_low}
 use Rattle.acceptance_laws.specs.Acceptable.{HasLowSides, HasLowTypes, RowsHaveLowTypes, ArmsHaveLowTypes}
@@ -64,7 +64,7 @@ sides ds s l h =
       leb-true (height (right_type f)) GREATEST_HEIGHT (second_and (nat_le (height (left_type f)) GREATEST_HEIGHT) (nat_le (height (right_type f)) GREATEST_HEIGHT) low),
     )
 
-with_arms : (arms : ArmTrees) → HasLowSides (alternatives arms) → ArmsHaveLowTypes arms → HasLowTypes (alternatives arms)
+with_arms : (arms : ArmTrees) → HasLowSides (alternatives_form arms) → ArmsHaveLowTypes arms → HasLowTypes (alternatives_form arms)
 with_arms no_arms s low = (s, tt)
 with_arms (more_arms a b l arms) s low = (s, low)
 
@@ -131,7 +131,7 @@ tags_low : (fs : FieldTrees) → HasLowTypes (partition fs) → highest fs ≤ G
 tags_low no_fields low = omega arith
 tags_low (more_fields n t fs) low = low.1
 
-arms_low : (arms : ArmTrees) → HasLowTypes (alternatives arms) → ArmsHaveLowTypes arms
+arms_low : (arms : ArmTrees) → HasLowTypes (alternatives_form arms) → ArmsHaveLowTypes arms
 arms_low no_arms low = tt
 arms_low (more_arms a b l arms) low = low.1
 

@@ -12,7 +12,7 @@ use Rattle.program_terms.specs.Terms as Term
 use Rattle.lens_forms.specs.Forms.{lefts, rights}
 use Rattle.lens_forms.specs.Typing.{left_names, right_names, left_arms, right_arms}
 use Rattle.lens_types.specs.Earlier.{Definitions, expanded_fields, expanded_rows, expanded_arms}
-use Rattle.lens_types.specs.Repeats.{SidedName, is_same_side, is_same_name, is_among, repeat_after, first_repeat, member_names, field_names, pair_names, row_names, arm_names}
+use Rattle.lens_types.specs.Repeats.{SidedName, is_same_side, is_same_name, is_among, repeat_after, first_repeat, sided_members, field_names, pair_names, row_names, arm_names}
 use Rattle.lens_types.proofs.RepeatedNames.{on, on-left_arms, on-right_arms, on-fields, on-left_names, on-right_names, on-members, on-lefts, on-rights, same_side, side_is}
 use Rattle.std.proofs.lemmas.Bool.{not-true, false_from_ne_true}
 use Rattle.texts.proofs.Tests.{neither_second}
@@ -99,7 +99,7 @@ no_repeat ns ls rs left right l r = no_repeat_after [] ns (λ e n h. cc) distinc
 
 -- ---- the names of each side, list by list
 
-right-members : (ms : List (List ℕ)) → on Right (member_names ms) ≡ []
+right-members : (ms : List (List ℕ)) → on Right (sided_members ms) ≡ []
 right-members [] = refl
 right-members (m ∷ ms) = right-members ms
 
@@ -109,8 +109,8 @@ right-fields (Term.more_fields n t fs) = right-fields fs
 
 -- ---- so none is repeated
 
-pub members_new : (ms : List (List ℕ)) → are_distinct ms ≡ true → first_repeat (member_names ms) ≡ None
-members_new ms h = no_repeat (member_names ms) ms [] (on-members ms) (right-members ms) h refl
+pub members_new : (ms : List (List ℕ)) → are_distinct ms ≡ true → first_repeat (sided_members ms) ≡ None
+members_new ms h = no_repeat (sided_members ms) ms [] (on-members ms) (right-members ms) h refl
 
 pub fields_new : (ds : Definitions) (fs : Term.FieldTrees) → are_distinct (names_of (expanded_fields ds fs)) ≡ true → first_repeat (field_names fs) ≡ None
 fields_new ds fs h = no_repeat (field_names fs) (names_of (expanded_fields ds fs)) [] (on-fields ds fs) (right-fields fs) h refl

@@ -12,9 +12,9 @@ use Rattle.lens_forms.specs.Forms.{FormTree, ArmTrees, no_arms, more_arms, form_
 use Rattle.lens_forms.specs.Typing.{is_typed, are_typed_rows, are_typed_arms, left_names, right_names, left_arms, right_arms}
 use Rattle.lens_forms.proofs.SortedFields.{sorted-names}
 use Rattle.lens_forms.specs.declared.limits.TheConstants.{GREATEST_HEIGHT}
-use Rattle.lens_types.specs.Earlier.{Definitions, alternatives_type, alternatives, partition, expanded_type, expanded_fields, expanded_form, expanded_rows, expanded_arms}
+use Rattle.lens_types.specs.Earlier.{Definitions, alternatives_type, alternatives_form, partition, expanded_type, expanded_fields, expanded_form, expanded_rows, expanded_arms}
 use Rattle.lens_types.specs.Checking.{Failure, repeated_field, repeated_tag, repeated_member, not_a_member, middle_differs, too_deep, value_failure, enum_failure, pairs_failure, type_failure, fields_failure, lens_failure, rows_failure, arms_failure, middle_failure, sides_failure}
-use Rattle.lens_types.specs.Repeats.{first_repeat, member_names, field_names, pair_names, row_names, arm_names}
+use Rattle.lens_types.specs.Repeats.{first_repeat, sided_members, field_names, pair_names, row_names, arm_names}
 use Rattle.acceptance_laws.specs.Acceptable.{HasLowSides, HasLowTypes, RowsHaveLowTypes, ArmsHaveLowTypes}
 use Rattle.acceptance_laws.proofs.NoRepeat.{members_new, fields_new, pairs_new, rows_new, arms_new}
 use Rattle.std.proofs.lemmas.Bool.{le-leb}
@@ -103,8 +103,8 @@ value_none v ms h = none_if (has_name v ms) (not_a_member v) h
 
 enum_none : (ms : List (List ℕ)) (v : List ℕ) → (are_choices ms && has_name v ms) ≡ true → enum_failure ms v ≡ None
 enum_none ms v h =
-    none_or (option_map repeated_member (first_repeat (member_names ms))) (value_failure v ms)
-    (none_map repeated_member (first_repeat (member_names ms)) (members_new ms (are_choices-distinct ms (first_and (are_choices ms) (has_name v ms) h))))
+    none_or (option_map repeated_member (first_repeat (sided_members ms))) (value_failure v ms)
+    (none_map repeated_member (first_repeat (sided_members ms)) (members_new ms (are_choices-distinct ms (first_and (are_choices ms) (has_name v ms) h))))
     (value_none v ms (second_and (are_choices ms) (has_name v ms) h))
 
 -- alternatives that are well formed, also those of nothing, have distinct tags and well-formed types
@@ -168,9 +168,9 @@ record HasArms (arms : ArmTrees) : Type 0 where
   lefts : are_distinct (left_arms arms) ≡ true
   rights : are_distinct (right_arms arms) ≡ true
   low : ArmsHaveLowTypes arms
-  sides : HasLowSides (alternatives arms)
+  sides : HasLowSides (alternatives_form arms)
 
-arms_of : (arms : ArmTrees) → is_typed (alternatives arms) ≡ true → HasLowTypes (alternatives arms) → HasArms arms
+arms_of : (arms : ArmTrees) → is_typed (alternatives_form arms) ≡ true → HasLowTypes (alternatives_form arms) → HasArms arms
 arms_of no_arms h low = record { inner = refl; lefts = refl; rights = refl; low = tt; sides = low.0 }
 arms_of (more_arms a b l arms) h low =
     let all = more_arms a b l arms in
@@ -228,7 +228,7 @@ mutual
       none_or (arms_failure ds arms) _ (arms_none ds arms has.inner has.low)
       (none_or (option_map repeated_tag (first_repeat (arm_names arms))) _
       (none_map repeated_tag (first_repeat (arm_names arms)) (arms_new ds arms has.lefts has.rights))
-      (sides_none (alternatives (expanded_arms ds arms)) has.sides))
+      (sides_none (alternatives_form (expanded_arms ds arms)) has.sides))
   lens_none ds (Term.each_of l) h low = none_or (lens_failure ds l) _ (lens_none ds l h low.1) (sides_none (expanded_form ds (Term.each_of l)) low.0)
   lens_none ds (Term.keyed_each l) h low = none_or (lens_failure ds l) _ (lens_none ds l h low.1) (sides_none (expanded_form ds (Term.keyed_each l)) low.0)
   lens_none ds (Term.tree_each l) h low = none_or (lens_failure ds l) _ (lens_none ds l h low.1) (sides_none (expanded_form ds (Term.tree_each l)) low.0)

@@ -5,7 +5,7 @@ use Rattle.lens_types.specs.Faults.{IsFaultOf}
 use Rattle.lens_types.specs.Checking.{Failure}
 use Rattle.lens_types.specs.declared.fault.TypeFault.{TypeFault}
 use Rattle.lens_types.specs.declared.fault.TypeFault.TheVariants as types
-use Rattle.lens_syntax.specs.Programs.{ProgramCause, cause_of}
+use Rattle.lens_syntax.specs.Programs.{ProgramCause, program_fault_cause}
 use Rattle.lens_syntax.specs.declared.fault.ProgramFault.{ProgramFault}
 use Rattle.lens_syntax.specs.declared.fault.ProgramFault.TheVariants as reading
 use Rattle.accepted_programs.specs.Program.{Refusal, syntax, typing}
@@ -16,7 +16,7 @@ use Rattle.accepted_programs.specs.declared.program.Refused.TheVariants.{Syntax,
 pub record IsSyntaxRefusal (outcome : Result FormTree Refusal) (fault : ProgramFault) : Type 0 where
   pub cause : ProgramCause
   pub is : outcome ≡ Err (syntax cause)
-  pub is_fault : cause_of fault ≡ Some cause
+  pub is_fault : program_fault_cause fault ≡ Some cause
 
 -- The program has no type, and the fault says its failure.
 pub record IsTypingRefusal (outcome : Result FormTree Refusal) (fault : TypeFault) : Type 0 where
@@ -26,10 +26,10 @@ pub record IsTypingRefusal (outcome : Result FormTree Refusal) (fault : TypeFaul
   pub known : fault ≡ types.NoMemory → ⊥
 
 -- the code's refusal is that of the definition; running out of memory says nothing
-abbrev pub IsRefusal : Result FormTree Refusal → Refused → Type 0
-IsRefusal outcome (Syntax fault) = IsSyntaxRefusal outcome fault
-IsRefusal outcome (Typing fault) = IsTypingRefusal outcome fault
-IsRefusal outcome NoMemory = Unit {0}
+abbrev pub IsProgramRefusal : Result FormTree Refusal → Refused → Type 0
+IsProgramRefusal outcome (Syntax fault) = IsSyntaxRefusal outcome fault
+IsProgramRefusal outcome (Typing fault) = IsTypingRefusal outcome fault
+IsProgramRefusal outcome NoMemory = Unit {0}
 
 -- the refusal has a line: running out of memory has none
 abbrev pub IsKnown : Refused → Type 0

@@ -3,7 +3,7 @@ ghost use Rattle.std.specs.Prelude.{◌≡◌, MatchResult, IfErr, Ok};
 ghost use Rattle.lens_forms.specs.Forms.{form_tree};
 ghost use Rattle.program_terms.specs.Views.{program_tree};
 ghost use Rattle.accepted_programs.specs.Program.{IsAccepted, form_of_program, lens_of};
-ghost use Rattle.accepted_programs.specs.Refused.{IsKnown, IsRefusal};
+ghost use Rattle.accepted_programs.specs.Refused.{IsKnown, IsProgramRefusal};
 
 use lens_syntax::{Program, ProgramFault, read_program};
 use lens_types::{TypeFault, Typed, check};
@@ -31,7 +31,7 @@ pub struct Accepted {
 /// refuses the text.
 pub fn read_lens(alloc: Global, text: &[u8]) -> Result<Typed, Refused>
     ensures lens { MatchResult result
-        (λ lens. lens_of text.now ≡ Ok (form_tree lens)) (λ refused. IsRefusal (lens_of text.now) refused) }
+        (λ lens. lens_of text.now ≡ Ok (form_tree lens)) (λ refused. IsProgramRefusal (lens_of text.now) refused) }
     ensures known { IfErr result IsKnown }
 {
     match read_accepted(alloc, text) {
@@ -51,7 +51,7 @@ pub fn read_lens(alloc: Global, text: &[u8]) -> Result<Typed, Refused>
 #[tactic(auto, using(crate::proofs::Refusals::syntax_refused))]
 pub fn read_accepted(alloc: Global, text: &[u8]) -> Result<Accepted, Refused>
     ensures accepted { MatchResult result
-        (λ a. IsAccepted text.now (program_tree a.program) (form_tree a.lens)) (IsRefusal (lens_of text.now)) }
+        (λ a. IsAccepted text.now (program_tree a.program) (form_tree a.lens)) (IsProgramRefusal (lens_of text.now)) }
     ensures known { IfErr result IsKnown }
 {
     match read_program(alloc, text) {
@@ -66,7 +66,7 @@ fn with_lens(alloc: Global, program: Program) -> Result<Accepted, Refused>
     ensures accepted { MatchResult result
         (λ a. (program_tree a.program ≡ program_tree program)
         × (form_of_program (Ok (program_tree program)) ≡ Ok (form_tree a.lens)))
-        (IsRefusal (form_of_program (Ok (program_tree program)))) }
+        (IsProgramRefusal (form_of_program (Ok (program_tree program)))) }
     ensures known { IfErr result IsKnown }
 {
     match check(alloc, &program) {

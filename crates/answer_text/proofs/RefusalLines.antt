@@ -6,7 +6,7 @@ use Rattle.lens_types.specs.Checking.{Failure}
 use Rattle.lens_types.specs.Faults.{IsFaultOf}
 use Rattle.lens_types.specs.declared.fault.TypeFault.{TypeFault}
 use Rattle.accepted_programs.specs.Program.{Refusal, typing}
-use Rattle.accepted_programs.specs.Refused.{IsRefusal}
+use Rattle.accepted_programs.specs.Refused.{IsProgramRefusal}
 use Rattle.accepted_programs.specs.declared.program.Refused.{Refused}
 use Rattle.accepted_programs.specs.declared.program.Refused.TheVariants.{Typing}
 use Rattle.answer_text.specs.Lines.{typing_line}
@@ -14,7 +14,7 @@ use Rattle.answer_text.specs.RefusalLines.{IsLineOf}
 
 pub typing_refused : (r : Result (List ℕ) AllocError) (refused : Refused) (fault : TypeFault) → refused ≡ Typing fault
     → IfOk r (λ line. (failure : Failure) → IsFaultOf (Some failure) fault → line ≡ typing_line failure)
-    → IfOk r (λ line. (outcome : Result FormTree Refusal) → IsRefusal outcome refused → IsLineOf outcome line)
+    → IfOk r (λ line. (outcome : Result FormTree Refusal) → IsProgramRefusal outcome refused → IsLineOf outcome line)
 typing_refused (Ok line) refused fault is line_is =
-    λ outcome h. let t = subst (IsRefusal outcome) is h in record { refusal = typing t.failure; is = t.is; is_line = line_is t.failure t.is_fault }
+    λ outcome h. let t = subst (IsProgramRefusal outcome) is h in record { refusal = typing t.failure; is = t.is; is_line = line_is t.failure t.is_fault }
 typing_refused (Err e) refused fault is line_is = tt

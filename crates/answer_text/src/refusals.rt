@@ -1,10 +1,10 @@
 //! The refusals of programs.
 ghost use Rattle.std.specs.Prelude.{◌≡◌, ◌≢◌, ◌++◌, codes, decimal, Result, Some, IfOk, IfSome};
 ghost use Rattle.accepted_programs.specs.Program.{Refusal};
-ghost use Rattle.accepted_programs.specs.Refused.{IsKnown, IsRefusal};
+ghost use Rattle.accepted_programs.specs.Refused.{IsKnown, IsProgramRefusal};
 ghost use Rattle.doc_values.specs.Types.{ty_tree};
 ghost use Rattle.lens_forms.specs.Forms.{FormTree};
-ghost use Rattle.lens_syntax.specs.Programs.{cause_of};
+ghost use Rattle.lens_syntax.specs.Programs.{program_fault_cause};
 ghost use Rattle.lens_types.specs.Checking.{Failure, middle_differs};
 ghost use Rattle.lens_types.specs.Faults.{IsFaultOf};
 ghost use Rattle.program_writing.specs.Canonical.{canonical_name};
@@ -25,7 +25,7 @@ use texts::{Bytes, Name};
 pub fn refused_part_line(alloc: Global, refused: &Refused) -> Result<Bytes, AllocError>
     requires has_line { IsKnown refused.now }
     ensures line { IfOk result (λ line. (outcome : Result FormTree Refusal)
-        → IsRefusal outcome refused.now → IsLineOf outcome line) }
+        → IsProgramRefusal outcome refused.now → IsLineOf outcome line) }
 {
     match refused {
         Refused::Syntax(fault) => syntax_line(alloc, fault),
@@ -43,7 +43,7 @@ pub fn syntax_line(alloc: Global, fault: &ProgramFault) -> Result<Bytes, AllocEr
     requires of_the_text { fault.now ≢ ProgramFault.NoMemory }
 
     // The line is that of the cause that the fault says.
-    ensures line { IfOk result (λ line. IfSome (cause_of fault.now) (λ cause. line ≡ syntax_line cause)) }
+    ensures line { IfOk result (λ line. IfSome (program_fault_cause fault.now) (λ cause. line ≡ syntax_line cause)) }
 {
     match fault {
         ProgramFault::ProgramTooLong => program_refused_line(alloc, "program-too-long"),

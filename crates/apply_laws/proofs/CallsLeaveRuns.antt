@@ -20,6 +20,7 @@ use Rattle.store_session.specs.contracts.instance.StoreSessionStoredSession.TheI
 use Rattle.store_session.specs.declared.session.StoreSession.{StoreSession}
 use Rattle.store_session.proofs.JournalRuns.{runs_alike}
 use Rattle.store_session.proofs.StatesInStep.{stored_sound}
+use Rattle.store_run.specs.Devices.{Devices}
 use Rattle.store_run.specs.ApplyCall.{ContinuesCall, IsSafeCall}
 use Rattle.store_run.specs.StoreRuns.{run, last, kept_of, text_of}
 use Rattle.store_run.specs.declared.session.StoredAnswer.{StoredAnswer}
@@ -61,8 +62,8 @@ module _ (before : StoreParts) (lines : List Line) (steps : List (StoredState ×
 
 -- ---- the calls
 
-module _ {S K D : Type 0} (source : OfSource.Ghosts S) (sink : OfSink.Ghosts K) (disk : OfDisk.Ghosts D) (old new : S × K × D) where
-  module _ (before : StoreParts) (image bytes given : List ℕ) (took : Took source old.0 new.0 bytes) (gave : Gave sink old.1 new.1 given) where
+module _ {S K D : Type 0} (source : OfSource.Ghosts S) (sink : OfSink.Ghosts K) (disk : OfDisk.Ghosts D) (old new : Devices S K D) where
+  module _ (before : StoreParts) (image bytes given : List ℕ) (took : Took source old.source new.source bytes) (gave : Gave sink old.sink new.sink given) where
     left_run : (lines rest : List Line) → lines_of bytes ≡ lines ++ rest → LeavesPayloads sessions before.payloads before.state before.version lines given image
         → LeavesRun source sink disk old new before image
     left_run lines rest parts p =
@@ -86,22 +87,22 @@ module _ {S K D : Type 0} (source : OfSource.Ghosts S) (sink : OfSink.Ghosts K) 
         }
 
   -- a call that did not open the store leaves no image that was not possible before
-  was_possible : (status : Status) → Unopened source sink disk old new status → (image : List ℕ) → disk.images new.2 image → disk.images old.2 image
+  was_possible : (status : Status) → Unopened source sink disk old new status → (image : List ℕ) → disk.images new.disk image → disk.images old.disk image
   was_possible status (inl failed) image is = failed.1.only image is
-  was_possible status (inr never) image is = subst (λ (x : S × K × D). disk.images x.2 image) never.1 is
+  was_possible status (inr never) image is = subst (λ (x : Devices S K D). disk.images x.disk image) never.1 is
 
-  module _ (status : Status) (store : Store disk old.2) where
+  module _ (status : Status) (store : Store disk old.disk) where
     abbrev before : StoreParts
-    before = parts_of disk old.2 store
+    before = parts_of disk old.disk store
 
     -- the store was opened
-    pub kept_run : IsSafeCall source sink disk sessions old new (disk.images old.2) store.payloads store.state store.version → (image : List ℕ) → disk.images new.2 image
+    pub kept_run : IsSafeCall source sink disk sessions old new (disk.images old.disk) store.payloads store.state store.version → (image : List ℕ) → disk.images new.disk image
         → LeavesRun source sink disk old new before image
     kept_run s image is =
         left_run before image s.bytes s.given s.consumes s.appends s.lines s.rest s.parts
         (leaves_payloads sessions store.payloads store.state store.version s.lines s.given image s.steps s.is_run s.stand (s.now image is))
 
-    pub leaves_run : Applies source sink disk old new status → (image : List ℕ) → disk.images new.2 image
+    pub leaves_run : Applies source sink disk old new status → (image : List ℕ) → disk.images new.disk image
         → StaysUnopened source sink disk old new status image ⊎ LeavesRun source sink disk old new before image
     leaves_run a image is = elim (a.of_store store).survives [
       | inl unopened ↦ inl (record { unopened = unopened; was = was_possible status unopened image is })
@@ -109,7 +110,7 @@ module _ {S K D : Type 0} (source : OfSource.Ghosts S) (sink : OfSink.Ghosts K) 
     ]
 
     -- the call came to its end
-    finished : ContinuesCall source sink disk sessions (old.0, old.1) new store.payloads store.state store.version status → FinishesRun source sink disk old new before
+    finished : ContinuesCall source sink disk sessions (old.source, old.sink) new store.payloads store.state store.version status → FinishesRun source sink disk old new before
     finished s =
         let after : StoreParts = record { payloads = with_version before ++ kept_of s.steps; state = last before.state s.steps; version = None; stands = s.stand } in
         let lines = lines_of s.bytes in
@@ -122,7 +123,7 @@ module _ {S K D : Type 0} (source : OfSource.Ghosts S) (sink : OfSink.Ghosts K) 
           holds = s.kept;
           run = holds_run before lines s.steps s.is_run after refl (append-nil (with_version before ++ kept_of s.steps)) (inr refl);
           version = refl;
-          gave = subst (λ text. Gave sink old.1 new.1 text) (text_is s.steps j) s.given;
+          gave = subst (λ text. Gave sink old.sink new.sink text) (text_is s.steps j) s.given;
         } where
           text_is : (steps : List (StoredState × StoredAnswer)) (j : IsJournalRun before.state 0 (lines_of s.bytes) steps)
               → text_of steps ++ state_text (last before.state steps) ≡ text_from before.state.form before.state.triple j.journal
@@ -135,9 +136,9 @@ module _ {S K D : Type 0} (source : OfSource.Ghosts S) (sink : OfSink.Ghosts K) 
 
 module _ {S K D : Type 0} (source : OfSource.Ghosts S) (sink : OfSink.Ghosts K) (disk : OfDisk.Ghosts D) where
   -- the second call is over the store that the first one left
-  module _ (old new : S × K × D) (status : Status) (before between : StoreParts) (items : List JournalItem) (first : HoldsRun before items between) (image : List ℕ)
-      (holds : HoldsPayloads between.payloads image) (told : disk.content old.2 ≡ Some image) (second : Applies source sink disk old new status) where
-    abbrev again : Store disk old.2
+  module _ (old new : Devices S K D) (status : Status) (before between : StoreParts) (items : List JournalItem) (first : HoldsRun before items between) (image : List ℕ)
+      (holds : HoldsPayloads between.payloads image) (told : disk.content old.disk ≡ Some image) (second : Applies source sink disk old new status) where
+    abbrev again : Store disk old.disk
     again = record { bytes = image; told = told; payloads = between.payloads; holds = holds; state = between.state; version = between.version; stands = between.stands }
 
     goes_on : ContinuesRun source sink disk old new status first
@@ -151,19 +152,19 @@ module _ {S K D : Type 0} (source : OfSource.Ghosts S) (sink : OfSink.Ghosts K) 
           (run, one_run before between run.after items (items_of (lines_of run.bytes)) first run.run);
     }
 
-  module _ (old1 new1 old2 new2 : S × K × D) (status1 status2 : Status) (store : Store disk old1.2) (image : List ℕ) (first : Applies source sink disk old1 new1 status1)
-      (second : Applies source sink disk old2 new2 status2) (told : disk.content old2.2 ≡ Some image) where
+  module _ (old1 new1 old2 new2 : Devices S K D) (status1 status2 : Status) (store : Store disk old1.disk) (image : List ℕ) (first : Applies source sink disk old1 new1 status1)
+      (second : Applies source sink disk old2 new2 status2) (told : disk.content old2.disk ≡ Some image) where
     abbrev start : StoreParts
-    start = parts_of disk old1.2 store
+    start = parts_of disk old1.disk store
 
-    pub goes_on_from_image : disk.images new1.2 image → StaysUnopened source sink disk old1 new1 status1 image
+    pub goes_on_from_image : disk.images new1.disk image → StaysUnopened source sink disk old1 new1 status1 image
         ⊎ ((left : LeavesRun source sink disk old1 new1 start image) × ContinuesRun source sink disk old2 new2 status2 left.run)
     goes_on_from_image is = elim (leaves_run source sink disk old1 new1 status1 store first image is) [
       | inl unopened ↦ inl unopened
       | inr left ↦ inr (left, goes_on old2 new2 status2 start left.after (items_of left.lines) left.run image left.holds told second)
     ]
 
-    pub goes_on_from_end : IsFinished status1 → disk.content new1.2 ≡ Some image
+    pub goes_on_from_end : IsFinished status1 → disk.content new1.disk ≡ Some image
         → (left : FinishesRun source sink disk old1 new1 start) × ContinuesRun source sink disk old2 new2 status2 left.run
     goes_on_from_end h is =
         let left = finishes_run source sink disk old1 new1 status1 store first h in

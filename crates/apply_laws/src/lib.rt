@@ -22,6 +22,7 @@ ghost use Rattle.apply_laws.specs.TwoCalls.{parts_of, LeavesRun, FinishesRun, St
 ghost use Rattle.store_laws.specs.CutStores.{EndsALine};
 ghost use Rattle.store_laws.specs.SessionRuns.{IsNumberedAlike};
 ghost use Rattle.store_session.specs.contracts.instance.StoreSessionStoredSession.TheImpl.{ghosts as sessions};
+ghost use Rattle.store_run.specs.Devices.{Devices};
 
 use lens_io::{Disk, Sink, Source};
 
@@ -59,13 +60,13 @@ pub fn two_runs_are_one_run()
 ///   the store: such an image was possible before it.
 /// - `finishes`: the disk after a call that came to its end. The run is over all lines.
 pub fn a_call_leaves_a_run<S: Source, K: Sink, D: Disk>()
-    ensures leaves { (old new : S × K × D) (status : Status) (store : Store D.Disk old.2) (image : List ℕ)
-        → Applies S.Source K.Sink D.Disk old new status → D.Disk.images new.2 image
+    ensures leaves { (old new : Devices S K D) (status : Status) (store : Store D.Disk old.disk) (image : List ℕ)
+        → Applies S.Source K.Sink D.Disk old new status → D.Disk.images new.disk image
         → StaysUnopened S.Source K.Sink D.Disk old new status image
-        ⊎ LeavesRun S.Source K.Sink D.Disk old new (parts_of D.Disk old.2 store) image }
-    ensures finishes { (old new : S × K × D) (status : Status) (store : Store D.Disk old.2)
+        ⊎ LeavesRun S.Source K.Sink D.Disk old new (parts_of D.Disk old.disk store) image }
+    ensures finishes { (old new : Devices S K D) (status : Status) (store : Store D.Disk old.disk)
         → Applies S.Source K.Sink D.Disk old new status → IsFinished status
-        → FinishesRun S.Source K.Sink D.Disk old new (parts_of D.Disk old.2 store) }
+        → FinishesRun S.Source K.Sink D.Disk old new (parts_of D.Disk old.disk store) }
 {}
 
 /// Two calls of `apply`, the second over what the first one left, are one run over the changes that they accept.
@@ -78,19 +79,19 @@ pub fn a_call_leaves_a_run<S: Source, K: Sink, D: Disk>()
 ///   call that could not open the store: then the image was possible before it.
 /// - `finished`: the first call came to its end, and they are what its disk has then.
 pub fn two_calls_are_one_run<S: Source, K: Sink, D: Disk>()
-    ensures crash { (old1 new1 old2 new2 : S × K × D) (status1 status2 : Status)
-        (store : Store D.Disk old1.2) (image : List ℕ)
-        → Applies S.Source K.Sink D.Disk old1 new1 status1 → D.Disk.images new1.2 image
-        → Applies S.Source K.Sink D.Disk old2 new2 status2 → D.Disk.content old2.2 ≡ Some image
+    ensures crash { (old1 new1 old2 new2 : Devices S K D) (status1 status2 : Status)
+        (store : Store D.Disk old1.disk) (image : List ℕ)
+        → Applies S.Source K.Sink D.Disk old1 new1 status1 → D.Disk.images new1.disk image
+        → Applies S.Source K.Sink D.Disk old2 new2 status2 → D.Disk.content old2.disk ≡ Some image
         → StaysUnopened S.Source K.Sink D.Disk old1 new1 status1 image
-        ⊎ ((first : LeavesRun S.Source K.Sink D.Disk old1 new1 (parts_of D.Disk old1.2 store) image)
+        ⊎ ((first : LeavesRun S.Source K.Sink D.Disk old1 new1 (parts_of D.Disk old1.disk store) image)
         × ContinuesRun S.Source K.Sink D.Disk old2 new2 status2 first.run) }
-    ensures finished { (old1 new1 old2 new2 : S × K × D) (status1 status2 : Status)
-        (store : Store D.Disk old1.2) (image : List ℕ)
+    ensures finished { (old1 new1 old2 new2 : Devices S K D) (status1 status2 : Status)
+        (store : Store D.Disk old1.disk) (image : List ℕ)
         → Applies S.Source K.Sink D.Disk old1 new1 status1 → IsFinished status1
-        → D.Disk.content new1.2 ≡ Some image
-        → Applies S.Source K.Sink D.Disk old2 new2 status2 → D.Disk.content old2.2 ≡ Some image
-        → (first : FinishesRun S.Source K.Sink D.Disk old1 new1 (parts_of D.Disk old1.2 store))
+        → D.Disk.content new1.disk ≡ Some image
+        → Applies S.Source K.Sink D.Disk old2 new2 status2 → D.Disk.content old2.disk ≡ Some image
+        → (first : FinishesRun S.Source K.Sink D.Disk old1 new1 (parts_of D.Disk old1.disk store))
         × ContinuesRun S.Source K.Sink D.Disk old2 new2 status2 first.run }
 {}
 
@@ -104,13 +105,13 @@ pub fn two_calls_are_one_run<S: Source, K: Sink, D: Disk>()
 /// - `crash`: the second call is over an image that a crash of the first one left, and its journal goes on behind
 ///   the lines that the image has.
 pub fn a_journal_may_be_cut<S: Source, K: Sink, D: Disk>()
-    ensures cut { (old1 new1 old2 new2 old3 new3 : S × K × D) (before : StoreParts)
+    ensures cut { (old1 new1 old2 new2 old3 new3 : Devices S K D) (before : StoreParts)
         (first : FinishesRun S.Source K.Sink D.Disk old1 new1 before)
         (second : FinishesRun S.Source K.Sink D.Disk old2 new2 first.after)
         (complete : FinishesRun S.Source K.Sink D.Disk old3 new3 before)
         → EndsALine first.bytes → complete.bytes ≡ first.bytes ++ second.bytes
         → ComeToTheSame first.run.journal second.run.journal second.after complete.run.journal complete.after }
-    ensures crash { (old1 new1 old2 new2 old3 new3 : S × K × D) (before : StoreParts) (image : List ℕ)
+    ensures crash { (old1 new1 old2 new2 old3 new3 : Devices S K D) (before : StoreParts) (image : List ℕ)
         (first : LeavesRun S.Source K.Sink D.Disk old1 new1 before image)
         (second : FinishesRun S.Source K.Sink D.Disk old2 new2 first.after)
         (complete : FinishesRun S.Source K.Sink D.Disk old3 new3 before)

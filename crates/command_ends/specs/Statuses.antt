@@ -20,18 +20,18 @@ code_of InputTooLong = 8
 code_of NoMemory = 9
 
 -- the status of a command that came to its end, by whether an entry was refused
-abbrev pub end_of : Bool → Status
-end_of true = SomeRefused
-end_of false = Done
+abbrev pub status_at_end : Bool → Status
+status_at_end true = SomeRefused
+status_at_end false = Done
 
 -- the command came to its end: nothing stopped it
 abbrev pub IsFinished : Status → Type 0
 IsFinished status = (status ≡ Done) ⊎ (status ≡ SomeRefused)
 
 -- the status is one of these
-abbrev pub IsAmong : List Status → Status → Type 0
-IsAmong [] status = ⊥
-IsAmong (one ∷ more) status = (status ≡ one) ⊎ IsAmong more status
+abbrev pub IsStatusAmong : List Status → Status → Type 0
+IsStatusAmong [] status = ⊥
+IsStatusAmong (one ∷ more) status = (status ≡ one) ⊎ IsStatusAmong more status
 
 -- ---- how each kind of command may end, whatever the devices tell
 

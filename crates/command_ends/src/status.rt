@@ -1,6 +1,6 @@
 //! The status of a command that has ended.
 ghost use Rattle.std.specs.Prelude.{◌≡◌};
-ghost use Rattle.command_ends.specs.Statuses.{IsFinished, code_of, end_of};
+ghost use Rattle.command_ends.specs.Statuses.{IsFinished, code_of, status_at_end};
 
 use std::alloc::{AllocError, Global};
 use texts::Twin;
@@ -41,7 +41,7 @@ impl Status {
 
     /// The status of a command that came to its end: whether an entry was refused.
     pub fn at_end(refused: bool) -> Status
-        ensures end { result ≡ end_of refused }
+        ensures end { result ≡ status_at_end refused }
         ensures finished { IsFinished result }
     {
         if refused {

@@ -21,16 +21,16 @@ number_of word =
     (nat_le (length word) 20 && nat_lt (decimal_after 0 word) (2 ^ 64))) then Some (decimal_after 0 word) else None
 
 -- such a number from 1 to 10,000
-abbrev pub count_of : List ℕ → Option ℕ
-count_of word = option_and_then (λ n. if nat_lt 0 n && nat_le n 10000 then Some n else None) (number_of word)
+abbrev pub count_of_word : List ℕ → Option ℕ
+count_of_word word = option_and_then (λ n. if nat_lt 0 n && nat_le n 10000 then Some n else None) (number_of word)
 
 -- `gen` with its two numbers
 abbrev pub gen_order : List ℕ → List ℕ → Option Order
-gen_order count seed = option_and_then (λ n. option_map (λ s. Gen n s) (number_of seed)) (count_of count)
+gen_order count seed = option_and_then (λ n. option_map (λ s. Gen n s) (number_of seed)) (count_of_word count)
 
 -- `undo` with its number
 abbrev pub undo_order : List ℕ → Option Order
-undo_order count = option_map (λ n. Undo n) (count_of count)
+undo_order count = option_map (λ n. Undo n) (count_of_word count)
 
 -- a command of one word over a store
 abbrev pub store_order : List ℕ → Option Order

@@ -1,6 +1,6 @@
 // The commands, and what refuses the words.
 ghost use Rattle.std.specs.Prelude.{◌≡◌};
-ghost use Rattle.command_words.specs.Orders.{count_of, plain_order, store_order, undo_order, gen_order};
+ghost use Rattle.command_words.specs.Orders.{count_of_word, plain_order, store_order, undo_order, gen_order};
 ghost use Rattle.command_words.specs.declared.orders.WordsFault.TheVariants.{NoMemory};
 
 use crate::numbers::read_number;
@@ -100,7 +100,7 @@ pub fn undo_order(count: &str) -> Option<Order>
 
 /// A number from 1 to 10,000, as `gen` and `undo` have it. None if the text is anything else.
 pub fn read_count(text: &str) -> Option<u64>
-    ensures { result ≡ count_of text.now }
+    ensures { result ≡ count_of_word text.now }
 {
     let count = read_number(text)?;
     if count == 0 || 10000 < count {

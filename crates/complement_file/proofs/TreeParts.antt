@@ -6,7 +6,7 @@ use Rattle.serde_json.specs.View.{view, items_view}
 use Rattle.serde_json.specs.declared.value.Value.{Value}
 use Rattle.value_json.specs.Parts.{two_members}
 use Rattle.value_json.proofs.Shapes.{is_array}
-use Rattle.complement_file.specs.ComplementJson.{one}
+use Rattle.value_json.specs.SmallTrees.{one_member}
 use Rattle.complement_file.specs.Reading.{HasContent, HasArray, HasPair, HasNodes}
 use Rattle.texts.proofs.Tests.{true_by_not}
 
@@ -21,7 +21,7 @@ not_two_items (x ∷ y ∷ z ∷ vs) d e h q =
     let last : no_items ≡ item (view z) (items_view vs) = cc in
     cc
 
-same_items : (n : List ℕ) (ds es : Items) → one n (array ds) ≡ one n (array es) → ds ≡ es
+same_items : (n : List ℕ) (ds es : Items) → one_member n (array ds) ≡ one_member n (array es) → ds ≡ es
 same_items n ds es q = cc
 
 pub not_a_pair : (n : List ℕ) (t : Data) (vs : List Value) → HasArray n t (items_view vs) → length vs ≢ 2 → (p : Data × Data) → HasPair n t p → ⊥
@@ -44,7 +44,7 @@ members_are c k l d e h = cc
 pub nodes_found_in : (t c : Data) (k l : List ℕ) (d e : Data) (ns ds : Items) → HasContent (codes "tree") t c → Some ((k, d), (l, e)) ≡ two_members c → k ≡ codes "depths" → l ≡ codes "items"
     → Some ns ≡ as_array d → Some ds ≡ as_array e → HasNodes t (ns, ds)
 nodes_found_in t c k l d e ns ds is members first second depths items =
-    ap (one (codes "tree"))
+    ap (one_member (codes "tree"))
     (ap₂ (λ x y. object (member (codes "depths") x (member (codes "items") y no_members))) (sym (is_array d ns depths)) (sym (is_array e ds items))
     ∙ ap₂ (λ x y. object (member x d (member y e no_members))) (sym first) (sym second)
     ∙ members_are c k l d e members)

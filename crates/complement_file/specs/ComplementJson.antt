@@ -5,19 +5,13 @@ use Rattle.serde_json.specs.Data.{Data, null, string, array, object, Items, no_i
 use Rattle.hold_shapes.specs.declared.shape.Shape.TheVariants.{List as ListOf, Keyed as KeyedOf, Tree as TreeOf}
 use Rattle.doc_values.specs.Types.{FieldTrees}
 use Rattle.value_json.specs.Numbers.{count_items}
+use Rattle.value_json.specs.SmallTrees.{one_member, array_of_two}
 use Rattle.lens_forms.specs.Forms.{FormTree, form_id, form_bij, form_disc, form_then, form_rec, form_alt, form_each}
 use Rattle.lens_forms.specs.Forms.{form_keyed, form_ordered, form_part, form_inv, RowTrees, no_rows, both, only_left}
 use Rattle.lens_forms.specs.Forms.{only_right, ArmTrees, no_arms, more_arms}
 use Rattle.lens_core.specs.Tags.{tag_name}
 use Rattle.lens_core.specs.Complements.{CompTree, then_comp, rec_comp, alt_comp, hold_comp, tags_comp, CompTrees}
 use Rattle.lens_core.specs.Complements.{no_comps, more_comps}
-
--- an object with one member, and an array of two items
-abbrev pub one : List ℕ → Data → Data
-one name content = object (member name content no_members)
-
-abbrev pub two : Data → Data → Data
-two first second = array (item first (item second no_items))
 
 -- the lens of the first arm with this left tag
 abbrev pub arm_with : ArmTrees → List ℕ → Option FormTree
@@ -49,24 +43,25 @@ abbrev mutual
   tree_of_complement (form_bij ps n) c = null
   tree_of_complement (form_disc t u) c = null
   tree_of_complement (form_then l k) (then_comp c d) =
-      one (codes "then") (two (tree_of_complement l c) (tree_of_complement k d))
+      one_member (codes "then") (array_of_two (tree_of_complement l c) (tree_of_complement k d))
   tree_of_complement (form_then l k) _ = null
-  tree_of_complement (form_rec rows) (rec_comp cs) = one (codes "rec") (array (row_items rows cs))
+  tree_of_complement (form_rec rows) (rec_comp cs) = one_member (codes "rec") (array (row_items rows cs))
   tree_of_complement (form_rec rows) _ = null
-  tree_of_complement (form_alt arms) (alt_comp t c) = one (codes "alt") (two (string t) (tree_in_arm arms t c))
+  tree_of_complement (form_alt arms) (alt_comp t c) =
+      one_member (codes "alt") (array_of_two (string t) (tree_in_arm arms t c))
   tree_of_complement (form_alt arms) _ = null
   tree_of_complement (form_each l) (hold_comp (ListOf s) cs) =
-      one (codes "list") (array (place_items (tree_of_complement l) cs))
+      one_member (codes "list") (array (place_items (tree_of_complement l) cs))
   tree_of_complement (form_each l) _ = null
   tree_of_complement (form_keyed l) (hold_comp (KeyedOf ks) cs) =
-      one (codes "keyed") (object (place_members (tree_of_complement l) ks cs))
+      one_member (codes "keyed") (object (place_members (tree_of_complement l) ks cs))
   tree_of_complement (form_keyed l) _ = null
   tree_of_complement (form_ordered l) (hold_comp (TreeOf ds) cs) =
-      one (codes "tree")
+      one_member (codes "tree")
       (object (member (codes "depths") (array (count_items ds))
       (member (codes "items") (array (place_items (tree_of_complement l) cs)) no_members)))
   tree_of_complement (form_ordered l) _ = null
-  tree_of_complement (form_part fs) (tags_comp ks) = one (codes "tags") (array (tag_items fs ks))
+  tree_of_complement (form_part fs) (tags_comp ks) = one_member (codes "tags") (array (tag_items fs ks))
   tree_of_complement (form_part fs) _ = null
   tree_of_complement (form_inv l) c = tree_of_complement l c
 

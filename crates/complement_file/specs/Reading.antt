@@ -7,7 +7,8 @@ use Rattle.tag_seq.specs.Tags.{are_below}
 use Rattle.lens_forms.specs.Forms.{FormTree, RowTrees}
 use Rattle.lens_core.specs.Tags.{tag_count, tag_name}
 use Rattle.lens_core.specs.Complements.{CompTree, CompTrees, IsNil, Fits, FitRows, AllFit}
-use Rattle.complement_file.specs.ComplementJson.{tree_of_complement, one, two, row_items, place_items, tag_items}
+use Rattle.complement_file.specs.ComplementJson.{tree_of_complement, row_items, place_items, tag_items}
+use Rattle.value_json.specs.SmallTrees.{one_member, array_of_two}
 use Rattle.complement_file.specs.declared.fault.CompFault.{CompFault}
 use Rattle.complement_file.specs.declared.fault.CompFault.TheVariants.{NotAComplement, NoMemory}
 
@@ -33,22 +34,22 @@ IsNothing tree c = IsNil c × (null ≡ tree)
 -- the tree of an ordered tree's complement, with these depths and these items
 abbrev pub nodes_tree : Items → Items → Data
 nodes_tree depths items =
-    one (codes "tree")
+    one_member (codes "tree")
     (object (member (codes "depths") (array depths) (member (codes "items") (array items) no_members)))
 
 -- the tree is an object with one member, of this name; its content is such a tree, an array of such items, an object of
 -- such members, or an array of two
 abbrev pub HasContent : List ℕ → Data → Data → Type 0
-HasContent name tree d = one name d ≡ tree
+HasContent name tree d = one_member name d ≡ tree
 
 abbrev pub HasArray : List ℕ → Data → Items → Type 0
-HasArray name tree ds = one name (array ds) ≡ tree
+HasArray name tree ds = one_member name (array ds) ≡ tree
 
 abbrev pub HasObject : List ℕ → Data → Members → Type 0
-HasObject name tree ms = one name (object ms) ≡ tree
+HasObject name tree ms = one_member name (object ms) ≡ tree
 
 abbrev pub HasPair : List ℕ → Data → Data × Data → Type 0
-HasPair name tree p = one name (two p.0 p.1) ≡ tree
+HasPair name tree p = one_member name (array_of_two p.0 p.1) ≡ tree
 
 -- the tree of an ordered tree's complement has these depths and items
 abbrev pub HasNodes : Data → Items × Items → Type 0

@@ -10,7 +10,8 @@ ghost use Rattle.lens_forms.specs.Forms.{form_tree, rows_tree, arms_tree, form_r
 ghost use Rattle.lens_forms.specs.Typing.{is_typed};
 ghost use Rattle.lens_core.specs.Complements.{comp_tree, comps_tree, rec_comp, alt_comp, hold_comp, comp_count, Fits};
 ghost use Rattle.lens_core.specs.Complements.{AllFit};
-ghost use Rattle.complement_file.specs.ComplementJson.{tree_of_complement, one, two, place_items, place_members};
+ghost use Rattle.complement_file.specs.ComplementJson.{tree_of_complement, place_items, place_members};
+ghost use Rattle.value_json.specs.SmallTrees.{one_member, array_of_two};
 
 use crate::lookup::find_arm;
 use crate::tags::write_tags;
@@ -72,7 +73,7 @@ fn write(alloc: Global, form: &Form, comp: &Comp) -> Result<Value, AllocError>
 
 // An object with one member.
 fn one_member(alloc: Global, name: &str, content: Value) -> Result<Value, AllocError>
-    ensures { IfOk result (λ tree. view tree ≡ one name.now (view content)) }
+    ensures { IfOk result (λ tree. view tree ≡ one_member name.now (view content)) }
 {
     let mut members = Map::new(alloc);
     put(&mut members, alloc, name, content)?;
@@ -81,7 +82,7 @@ fn one_member(alloc: Global, name: &str, content: Value) -> Result<Value, AllocE
 
 // An object with one member, an array of two items.
 fn write_pair(alloc: Global, name: &str, first: Value, second: Value) -> Result<Value, AllocError>
-    ensures { IfOk result (λ tree. view tree ≡ one name.now (two (view first) (view second))) }
+    ensures { IfOk result (λ tree. view tree ≡ one_member name.now (array_of_two (view first) (view second))) }
 {
     let items = vec![in alloc; first, second]?;
     one_member(alloc, name, Value::Array(items))

@@ -2,7 +2,7 @@
 use Rattle.std.proofs.Common.{◌≡◌, ℕ, zero, suc, ◌-◌, ◌<◌, ◌≤◌, List, [], ◌∷◌, ◌++◌, length, map, take, drop, refl, sym, ap, ◌∙◌, arith}
 use Rattle.std.specs.Prelude.{encode_utf8, encode_utf8_all}
 use Rattle.std.specs.Str.{chars}
-use Rattle.edit_inverse.specs.Inverse.{cut}
+use Rattle.edit_inverse.specs.Inverse.{cut_out}
 use Rattle.std.proofs.lemmas.List.{append-nil}
 use Rattle.std.proofs.lemmas.Str.{encodes-append, chars_from_encodes}
 
@@ -33,7 +33,7 @@ same-list : (xs : List ℕ) → map (λ (c : ℕ). c) xs ≡ xs
 same-list [] = refl
 same-list (x ∷ xs) = ap (λ (l : List ℕ). x ∷ l) (same-list xs)
 
-pub taken-all : (s ys bytes : List ℕ) (i k : ℕ) → map (λ (c : ℕ). c) ys ≡ chars s → bytes ≡ encode_utf8_all (take k (drop i ys)) → bytes ≡ cut s i k
+pub taken-all : (s ys bytes : List ℕ) (i k : ℕ) → map (λ (c : ℕ). c) ys ≡ chars s → bytes ≡ encode_utf8_all (take k (drop i ys)) → bytes ≡ cut_out s i k
 taken-all s ys bytes i k all e =
     let same : ys ≡ chars s = sym (same-list ys) ∙ all in
     e ∙ ap (λ (l : List ℕ). encode_utf8_all (take k (drop i l))) same

@@ -17,7 +17,7 @@ use Rattle.hold_shapes.specs.Shapes.{place_of}
 use Rattle.hold_shapes.specs.Plans.{list_of, is_count, old_places, put_key}
 use Rattle.hold_shapes.proofs.ValidDepths.{GoesOn, Low, HeadAtMost}
 use Rattle.hold_shapes.specs.declared.lists.TheConstants.{MOST_ITEMS}
-use Rattle.texts.specs.Keys.{is_rising, all_after, is_before, rank, key_place}
+use Rattle.texts.specs.Keys.{is_rising, all_after, is_before, key_rank, key_place}
 use Rattle.texts.proofs.Conjunction.{both}
 use Rattle.texts.proofs.KeyOrder.{bytes_eq-refl, rising-first, rising-rest, after-all, key_place-past, key_place-found}
 use Rattle.shape_laws.proofs.Content.{content-old_places}
@@ -155,7 +155,7 @@ rising-front [] ls h = refl
 rising-front (k ∷ ks) ls h = both _ _ (after-front k ks ls (rising-first k (ks ++ ls) h)) (rising-front ks ls (rising-rest k (ks ++ ls) h))
 
 -- a key behind others comes after all of them
-rank-behind : (ks : List (List ℕ)) (k : List ℕ) (ls : List (List ℕ)) → is_rising (ks ++ k ∷ ls) ≡ true → rank k ks ≡ length ks
+rank-behind : (ks : List (List ℕ)) (k : List ℕ) (ls : List (List ℕ)) → is_rising (ks ++ k ∷ ls) ≡ true → key_rank k ks ≡ length ks
 rank-behind [] k ls h = refl
 rank-behind (m ∷ ks) k ls h =
     let rest = rising-rest m (ks ++ k ∷ ls) h in
@@ -173,9 +173,9 @@ place-behind ks k h =
 
 -- a new key among others
 pub put-makes : {X : Type 0} (ks : List (List ℕ)) (k : List ℕ) (fresh : X) (xs : List X) → key_place k ks ≡ None → length ks ≡ length xs
-    → Makes (KeyedOf ks) (PutKey k) fresh xs (KeyedOf (insert ks (rank k ks) k)) (insert xs (rank k ks) fresh)
+    → Makes (KeyedOf ks) (PutKey k) fresh xs (KeyedOf (insert ks (key_rank k ks) k)) (insert xs (key_rank k ks) fresh)
 put-makes ks k fresh xs h e =
-    (insert (old_places (length ks)) (rank k ks) Fresh, ap (λ (o : Option ℕ). put_key ks k o) h, sym (content-insert _ fresh xs (length ks) (rank k ks) Fresh e))
+    (insert (old_places (length ks)) (key_rank k ks) Fresh, ap (λ (o : Option ℕ). put_key ks k o) h, sym (content-insert _ fresh xs (length ks) (key_rank k ks) Fresh e))
 
 pub put-acts : (t : TyTree) (ks : List (List ℕ)) (ws : List WordTree) (ls : List (List ℕ)) (front ys : List DocTree) → Built t ws ys → length ks ≡ length ys → length ls ≡ length front
     → is_rising (ls ++ ks) ≡ true
@@ -196,10 +196,10 @@ put-acts t (k ∷ ks) (w ∷ ws) ls front (y ∷ ys) b e f r =
     let last = rank-behind ls k ks r in
     let new : key_place k ls ≡ None = key_place-past k ls before (omega arith) in
     let made = put-makes ls k d front new f in
-    let keys : insert ls (rank k ls) k ≡ ls ++ k ∷ [] = ap (λ (i : ℕ). insert ls i k) last ∙ insert_end ls k in
-    let items : insert front (rank k ls) d ≡ front ++ d ∷ [] = ap (λ (i : ℕ). insert front i d) (last ∙ f) ∙ insert_end front d in
+    let keys : insert ls (key_rank k ls) k ≡ ls ++ k ∷ [] = ap (λ (i : ℕ). insert ls i k) last ∙ insert_end ls k in
+    let items : insert front (key_rank k ls) d ≡ front ++ d ∷ [] = ap (λ (i : ℕ). insert front i d) (last ∙ f) ∙ insert_end front d in
     let M : List (List ℕ) → List DocTree → Type 0 = λ l zs. Makes (KeyedOf ls) (PutKey k) d front (KeyedOf l) zs in
-    let m : M (ls ++ k ∷ []) (front ++ d ∷ []) = subst (λ (zs : List DocTree). M (ls ++ k ∷ []) zs) items (subst (λ (l : List (List ℕ)). M l (insert front (rank k ls) d)) keys made) in
+    let m : M (ls ++ k ∷ []) (front ++ d ∷ []) = subst (λ (zs : List DocTree). M (ls ++ k ∷ []) zs) items (subst (λ (l : List (List ℕ)). M l (insert front (key_rank k ls) d)) keys made) in
     let l1 = length-append ls (k ∷ []) in
     let l2 = length-append front (y ∷ []) in
     let ih = put-acts t ks ws (ls ++ k ∷ []) (front ++ y ∷ []) ys b.1 (omega arith) (omega arith) r' in

@@ -10,7 +10,7 @@ use Rattle.hold_shapes.specs.declared.origins.Origin.TheVariants.{Old}
 use Rattle.hold_shapes.specs.declared.edit.ShapeEdit.TheVariants.{PutKey, DropKey, RenameKey}
 use Rattle.hold_shapes.specs.Gather.{content_at}
 use Rattle.hold_shapes.specs.Plans.{plan, old_places, put_key, drop_key, rename_to, rename_key}
-use Rattle.texts.specs.Keys.{is_rising, all_after, is_before, rank, key_from, key_place}
+use Rattle.texts.specs.Keys.{is_rising, all_after, is_before, key_rank, key_from, key_place}
 use Rattle.texts.proofs.KeyOrder.{bytes_eq-refl, rising-first, rising-rest, rising-insert, rising-remove, after-all, after-tail, before-differs, after-differs, rank-length, key_place-found, key_place-remove, rank-none}
 use Rattle.shape_laws.proofs.Lawful.{key-within}
 use Rattle.shape_laws.proofs.Content.{content-old_places, key-found}
@@ -48,7 +48,7 @@ gone-from at k (m ∷ ms) (suc p) r h e =
     rw (after-differs k m less) (gone-from (at + 1) k ms p (rising-rest m ms r) within e)
 
 -- its rank among the others is the place that it had
-rank-home : (k : List ℕ) (ks : List (List ℕ)) (p : ℕ) → is_rising ks ≡ true → p < length ks → get_or ks p [] ≡ k → rank k (remove ks p) ≡ p
+rank-home : (k : List ℕ) (ks : List (List ℕ)) (p : ℕ) → is_rising ks ≡ true → p < length ks → get_or ks p [] ≡ k → key_rank k (remove ks p) ≡ p
 rank-home k [] p r h e = absurd (omega arith)
 rank-home k (m ∷ ms) zero r h e =
     let P : List ℕ → Type 0 = λ n. all_after n ms ≡ true in
@@ -62,19 +62,19 @@ rank-home k (m ∷ ms) (suc p) r h e =
 pub key-gone : (k : List ℕ) (ks : List (List ℕ)) (p : ℕ) → is_rising ks ≡ true → key_place k ks ≡ Some p → key_place k (remove ks p) ≡ None
 key-gone k ks p r h = let w = key-named k ks p h in gone-from 0 k ks p r w.0 w.1
 
-pub key-home : (k : List ℕ) (ks : List (List ℕ)) (p : ℕ) → is_rising ks ≡ true → key_place k ks ≡ Some p → (rank k (remove ks p) ≡ p) × (insert (remove ks p) p k ≡ ks)
+pub key-home : (k : List ℕ) (ks : List (List ℕ)) (p : ℕ) → is_rising ks ≡ true → key_place k ks ≡ Some p → (key_rank k (remove ks p) ≡ p) × (insert (remove ks p) p k ≡ ks)
 key-home k ks p r h =
     let w = key-named k ks p h in
     (rank-home k ks p r w.0 w.1, ap (λ (n : List ℕ). insert (remove ks p) p n) (sym w.1) ∙ insert-removed-item ks p [] w.0)
 
 -- ---- a key put in
 
-key-put : (k : List ℕ) (ks : List (List ℕ)) → is_rising ks ≡ true → key_place k ks ≡ None → key_place k (insert ks (rank k ks) k) ≡ Some (rank k ks)
+key-put : (k : List ℕ) (ks : List (List ℕ)) → is_rising ks ≡ true → key_place k ks ≡ None → key_place k (insert ks (key_rank k ks) k) ≡ Some (key_rank k ks)
 key-put k ks r h =
     let room = rank-length k ks in
-    let long = length-insert ks (rank k ks) k room in
+    let long = length-insert ks (key_rank k ks) k room in
     let P : List ℕ → Type 0 = λ n. bytes_eq k n ≡ true in
-    key_place-found k [] (insert ks (rank k ks) k) (rank k ks) (rising-insert k ks r h) (omega arith) (subst P (sym (get_or-insert_at ks (rank k ks) k [] room)) (bytes_eq-refl k))
+    key_place-found k [] (insert ks (key_rank k ks) k) (key_rank k ks) (rising-insert k ks r h) (omega arith) (subst P (sym (get_or-insert_at ks (key_rank k ks) k [] room)) (bytes_eq-refl k))
 
 none-step : (b : Bool) (at : ℕ) (o : Option ℕ) → (if b then Some at else o) ≡ None → (b ≡ false) × (o ≡ None)
 none-step true at o h = cc
@@ -119,7 +119,7 @@ pub put-back-key : {X : Type 0} (ks : List (List ℕ)) (k : List ℕ) (s : Shape
     → plan (KeyedOf ks) (PutKey k) ≡ Ok (s, from) → Makes s (DropKey k) fresh (map (content_at xs fresh) from) (KeyedOf ks) xs
 put-back-key ks k s from fresh xs r e h =
     let none = put-ok ks k (key_place k ks) (s, from) h in
-    let i = rank k ks in
+    let i = key_rank k ks in
     let room = rank-length k ks in
     let there = put-makes ks k fresh xs none e in
     let new = insert ks i k in
@@ -159,9 +159,9 @@ drop-back-key ks k s from fresh xs r e h =
 -- ---- rename
 
 rename-makes : {X : Type 0} (ks : List (List ℕ)) (k m : List ℕ) (p : ℕ) (fresh : X) (xs : List X) → key_place k ks ≡ Some p → bytes_eq k m ≡ false → key_place m ks ≡ None → length ks ≡ length xs
-    → Makes (KeyedOf ks) (RenameKey k m) fresh xs (KeyedOf (insert (remove ks p) (rank m (remove ks p)) m)) (insert (remove xs p) (rank m (remove ks p)) (get_or xs p fresh))
+    → Makes (KeyedOf ks) (RenameKey k m) fresh xs (KeyedOf (insert (remove ks p) (key_rank m (remove ks p)) m)) (insert (remove xs p) (key_rank m (remove ks p)) (get_or xs p fresh))
 rename-makes ks k m p fresh xs h n o e =
-    let i = rank m (remove ks p) in
+    let i = key_rank m (remove ks p) in
     let from = insert (remove (old_places (length ks)) p) i (Old p) in (
       from,
       ap (λ (r : Option ℕ). rename_key ks k m r) h
@@ -197,7 +197,7 @@ differs-too k m false h e = refl
 
 -- a key with another name gets its name back
 renamed-back : {X : Type 0} (ks : List (List ℕ)) (k m : List ℕ) (p : ℕ) (fresh : X) (xs : List X) → is_rising ks ≡ true → length ks ≡ length xs → key_place k ks ≡ Some p → bytes_eq k m ≡ false → key_place m ks ≡ None
-    → Makes (KeyedOf (insert (remove ks p) (rank m (remove ks p)) m)) (RenameKey m k) fresh (insert (remove xs p) (rank m (remove ks p)) (get_or xs p fresh)) (KeyedOf ks) xs
+    → Makes (KeyedOf (insert (remove ks p) (key_rank m (remove ks p)) m)) (RenameKey m k) fresh (insert (remove xs p) (key_rank m (remove ks p)) (get_or xs p fresh)) (KeyedOf ks) xs
 renamed-back ks k m p fresh xs r e h n o =
     let named = key-named k ks p h in
     let within : p < length ks = named.0 in
@@ -205,7 +205,7 @@ renamed-back ks k m p fresh xs r e h n o =
     let xrest = remove xs p in
     let rests = rising-remove ks p r in
     let gone = key_place-remove m ks p o in
-    let i = rank m rest in
+    let i = key_rank m rest in
     let room = rank-length m rest in
     let x = get_or xs p fresh in
     let new = insert rest i m in
@@ -218,16 +218,16 @@ renamed-back ks k m p fresh xs r e h n o =
     let home = key-home k ks p r h in
     let left : remove new i ≡ rest = remove-inserted-item rest i m room in
     let xleft : remove ys i ≡ xrest = remove-inserted-item xrest i x (omega arith) in
-    let names : insert (remove new i) (rank k (remove new i)) k ≡ ks =
-    ap (λ (l : List (List ℕ)). insert l (rank k l) k) left ∙ (ap (λ (j : ℕ). insert rest j k) home.0 ∙ home.1) in
-    let items : insert (remove ys i) (rank k (remove new i)) (get_or ys i fresh) ≡ xs =
-    ap (λ (l : List _). insert l (rank k (remove new i)) (get_or ys i fresh)) xleft
-    ∙ (ap (λ (l : List (List ℕ)). insert xrest (rank k l) (get_or ys i fresh)) left
+    let names : insert (remove new i) (key_rank k (remove new i)) k ≡ ks =
+    ap (λ (l : List (List ℕ)). insert l (key_rank k l) k) left ∙ (ap (λ (j : ℕ). insert rest j k) home.0 ∙ home.1) in
+    let items : insert (remove ys i) (key_rank k (remove new i)) (get_or ys i fresh) ≡ xs =
+    ap (λ (l : List _). insert l (key_rank k (remove new i)) (get_or ys i fresh)) xleft
+    ∙ (ap (λ (l : List (List ℕ)). insert xrest (key_rank k l) (get_or ys i fresh)) left
     ∙ (ap (λ (j : ℕ). insert xrest j (get_or ys i fresh)) home.0
     ∙ (ap (λ (y : _). insert xrest p y) (get_or-insert_at xrest i x fresh (omega arith))
     ∙ insert-removed-item xs p fresh (omega arith)))) in
     let P : List (List ℕ) → List _ → Type 0 = λ l ws. Makes (KeyedOf new) (RenameKey m k) fresh ys (KeyedOf l) ws in
-    subst (λ (ws : List _). P ks ws) items (subst (λ (l : List (List ℕ)). P l (insert (remove ys i) (rank k (remove new i)) (get_or ys i fresh))) names back)
+    subst (λ (ws : List _). P ks ws) items (subst (λ (l : List (List ℕ)). P l (insert (remove ys i) (key_rank k (remove new i)) (get_or ys i fresh))) names back)
 
 pub rename-back-key : {X : Type 0} (ks : List (List ℕ)) (k m : List ℕ) (s : Shape) (from : List Origin) (fresh : X) (xs : List X) → is_rising ks ≡ true → length ks ≡ length xs
     → plan (KeyedOf ks) (RenameKey k m) ≡ Ok (s, from) → Makes s (RenameKey m k) fresh (map (content_at xs fresh) from) (KeyedOf ks) xs
@@ -244,5 +244,5 @@ rename-back-key ks k m s from fresh xs r e h =
         back-through (KeyedOf ks) (RenameKey k m) (RenameKey m k) (KeyedOf ks) s from fresh xs xs (same-makes ks k m p fresh xs at n e) h (same-makes ks m k p fresh xs (subst P one at) turn e)
     go false n p at q =
         let none = absent-ok ks m p (key_place m ks) (s, from) q in
-        back-through (KeyedOf ks) (RenameKey k m) (RenameKey m k) (KeyedOf (insert (remove ks p) (rank m (remove ks p)) m)) s from fresh xs (insert (remove xs p) (rank m (remove ks p)) (get_or xs p fresh))
+        back-through (KeyedOf ks) (RenameKey k m) (RenameKey m k) (KeyedOf (insert (remove ks p) (key_rank m (remove ks p)) m)) s from fresh xs (insert (remove xs p) (key_rank m (remove ks p)) (get_or xs p fresh))
         (rename-makes ks k m p fresh xs at n none e) h (renamed-back ks k m p fresh xs r e at n none)

@@ -9,7 +9,7 @@ ghost use Rattle.texts.specs.Characters.{character_count};
 ghost use Rattle.edit_module.specs.Words.{WordTree, set, splice, switch};
 ghost use Rattle.edit_module.specs.Views.{word_tree};
 ghost use Rattle.edit_inverse.specs.Construct.{only};
-ghost use Rattle.edit_inverse.specs.Inverse.{atom_of, cut, inverse_primitive};
+ghost use Rattle.edit_inverse.specs.Inverse.{atom_of_value, cut_out, inverse_primitive};
 ghost use Rattle.edit_inverse.specs.Texts.{PrimitiveMeets};
 
 use crate::construction::construct;
@@ -22,7 +22,7 @@ use std::alloc::{AllocError, Global};
 
 // The word that sets a value to what it was.
 pub(crate) fn set_back(alloc: Global, doc: &Doc) -> Result<Word, AllocError>
-    ensures { IfOk result (λ w. word_tree w ≡ only (set (atom_of (doc_tree doc.now)))) }
+    ensures { IfOk result (λ w. word_tree w ≡ only (set (atom_of_value (doc_tree doc.now)))) }
 {
     let atom = atom_of(alloc, doc)?;
     one(alloc, Primitive::Set(atom))
@@ -30,7 +30,7 @@ pub(crate) fn set_back(alloc: Global, doc: &Doc) -> Result<Word, AllocError>
 
 // The atom of a value. A value that has none gives any, since nothing sets it.
 fn atom_of(alloc: Global, doc: &Doc) -> Result<Atom, AllocError>
-    ensures { IfOk result (λ a. a ≡ atom_of (doc_tree doc.now)) }
+    ensures { IfOk result (λ a. a ≡ atom_of_value (doc_tree doc.now)) }
 {
     match doc {
         Doc::Bool(truth) => Ok(Atom::Truth(*truth)),
@@ -75,7 +75,7 @@ fn count_of(text: &str) -> u64
 
 // The characters of a text from a place on, this many at most.
 fn characters(alloc: Global, text: &str, from: u64, count: u64) -> Result<String, AllocError>
-    ensures text { IfOk result (λ s. string_bytes s ≡ cut text.now from count) }
+    ensures text { IfOk result (λ s. string_bytes s ≡ cut_out text.now from count) }
     ensures utf8 { IsUtf8 text.now }
 {
     let mut cut = String::new(alloc);

@@ -16,7 +16,7 @@ ghost use Rattle.edit_module.specs.Action.{act, act_primitive, act_at_place, inn
 ghost use Rattle.edit_module.specs.Containers.{IsHeld};
 ghost use Rattle.edit_module.specs.Refusals.{IsRefusal, IsPrimitiveRefusal};
 ghost use Rattle.edit_inverse.specs.Construct.{only};
-ghost use Rattle.edit_inverse.specs.Inverse.{for_found, atom_of, inverse, inverse_primitive};
+ghost use Rattle.edit_inverse.specs.Inverse.{for_found, atom_of_value, inverse, inverse_primitive};
 ghost use Rattle.edit_inverse.specs.Laws.{TakesBack};
 ghost use Rattle.edit_inverse.specs.Steps.{contents_at, backwards};
 ghost use Rattle.edit_inverse.specs.Texts.{IfFound, MeetsTexts, PrimitiveMeets};
@@ -190,7 +190,7 @@ fn reset(alloc: Global, ty: &Ty, primitive: &Primitive, doc: &Doc) -> Result<Mad
         (λ m. act_primitive (ty_tree ty.now) (primitive_tree primitive.now) (doc_tree doc.now) ≡ Ok (doc_tree m.value))
         (λ fault. IsPrimitiveRefusal (act_primitive (ty_tree ty.now) (primitive_tree primitive.now) (doc_tree doc.now))
         fault) }
-    ensures back { IfOk result (λ m. word_tree m.back ≡ only (set (atom_of (doc_tree doc.now)))) }
+    ensures back { IfOk result (λ m. word_tree m.back ≡ only (set (atom_of_value (doc_tree doc.now)))) }
 {
     let value = acted(alloc, ty, primitive, doc)?;
     let back = set_back(alloc, doc)?;

@@ -15,7 +15,7 @@ use Rattle.value_json.specs.Parts.{only_member}
 use Rattle.edit_json.specs.declared.kind.Kind.TheVariants.{Splice, At, Stay, Switch, Mod, Move, Rename, Shift, Hang}
 use Rattle.edit_json.specs.Parts.{two_items, three_items}
 use Rattle.edit_json.specs.Kinds.{kind_of}
-use Rattle.edit_json.specs.Values.{place_of, numbers_of}
+use Rattle.edit_json.specs.Values.{data_place, numbers_of}
 use Rattle.edit_json.specs.WordJson.{leaf_of, primitive_of, content_of, word_of_tree, word_of_items}
 
 -- ---- primitives without an inner word
@@ -91,7 +91,7 @@ switch_of d = refl
 
 abbrev pub mod_by : Option (Data × Data) → Option PrimitiveTree
 mod_by None = None
-mod_by (Some p) = option_and_then (λ q. option_map (modify q) (word_of_tree p.1)) (place_of p.0)
+mod_by (Some p) = option_and_then (λ q. option_map (modify q) (word_of_tree p.1)) (data_place p.0)
 
 pub mod_of : (d : Data) → content_of Mod d ≡ mod_by (two_items d)
 unfolding primitive_of

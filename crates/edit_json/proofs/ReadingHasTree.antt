@@ -18,8 +18,9 @@ use Rattle.value_json.proofs.ReadingHasTree.{int_takes, count_takes, counts_take
 use Rattle.edit_json.specs.declared.kind.Kind.{Kind}
 use Rattle.edit_json.specs.declared.kind.Kind.TheVariants.{Set, Add, Splice, At, Stay, Switch, Mod, Ins, Del, Move, Reorder, Put, Drop, Rename, Graft, Prune, Shift, Hang}
 use Rattle.edit_json.specs.Kinds.{kind_of}
-use Rattle.edit_json.specs.Values.{tree_of_counts, tree_of_atom, tree_of_place, atom_of, numbers_of, place_of, if_count, item_count_of, fits_u64, all_fit_u64, atom_fits, place_fits}
-use Rattle.edit_json.specs.WordJson.{one, tree_of_primitive, items_of_word, tree_of_word, leaf_of, primitive_of, content_of, word_of_tree, word_of_items, primitive_counts_fit, counts_fit, primitive_numbers_fit, numbers_fit}
+use Rattle.edit_json.specs.Values.{tree_of_counts, tree_of_atom, tree_of_place, atom_of, numbers_of, data_place, if_count, item_count_of, fits_u64, all_fit_u64, atom_fits, place_fits}
+use Rattle.edit_json.specs.WordJson.{tree_of_primitive, items_of_word, tree_of_word, leaf_of, primitive_of, content_of, word_of_tree, word_of_items, primitive_counts_fit, counts_fit, primitive_numbers_fit, numbers_fit}
+use Rattle.value_json.specs.SmallTrees.{one_member}
 use Rattle.texts.proofs.Tests.{bytes_eq-is}
 
 -- ---- values
@@ -61,7 +62,7 @@ atom_takes (number x) v h =
 atom_takes (string s) v h = let e : atoms.Letters s ≡ v = cc in (ap tree_of_atom (sym e), ap atom_fits (sym e))
 atom_takes d v h = cc
 
-place_takes : (d : Data) (p : Place) → place_of d ≡ Some p → (tree_of_place p ≡ d) × (place_fits p ≡ true)
+place_takes : (d : Data) (p : Place) → data_place d ≡ Some p → (tree_of_place p ≡ d) × (place_fits p ≡ true)
 place_takes (number x) p h =
     let m = map_some places.Index (count_of (number x)) p h in
     (ap tree_of_place (sym m.2) ∙ count_takes (number x) m.0 m.1, ap place_fits (sym m.2) ∙ count_fits (number x) m.0 m.1)
@@ -130,15 +131,15 @@ pub record WordRead (ds : Items) (w : WordTree) : Type 0 where
   pub counts : counts_fit w ≡ true
   pub numbers : numbers_fit w ≡ true
 
-leaf_takes : (kind : Kind) (d : Data) (p : PrimitiveTree) → leaf_of kind d ≡ Some p → IsRead (one (name_of kind) d) p
+leaf_takes : (kind : Kind) (d : Data) (p : PrimitiveTree) → leaf_of kind d ≡ Some p → IsRead (one_member (name_of kind) d) p
 leaf_takes Set d p h =
     let m = map_some set (atom_of d) p h in
     let r = atom_takes d m.0 m.1 in
-    read_as _ _ p m.2 (record { tree = ap (one (codes "set")) r.0; counts = refl; numbers = r.1 })
+    read_as _ _ p m.2 (record { tree = ap (one_member (codes "set")) r.0; counts = refl; numbers = r.1 })
 leaf_takes Add d p h =
     let m = map_some add (int_of d) p h in
     let r = int_takes_tree d m.0 m.1 in
-    read_as _ _ p m.2 (record { tree = ap (one (codes "add")) r.0; counts = refl; numbers = r.1 })
+    read_as _ _ p m.2 (record { tree = ap (one_member (codes "add")) r.0; counts = refl; numbers = r.1 })
 leaf_takes Splice (array (item i (item k (item s no_items)))) p h =
     let a = bind_some (λ i. option_and_then (λ k. option_map (splice i k) (as_str s)) (count_of k)) (count_of i) p h in
     let b = bind_some (λ k. option_map (splice a.0 k) (as_str s)) (count_of k) p a.2 in
@@ -151,11 +152,11 @@ leaf_takes Splice (array (item i (item k (item s no_items)))) p h =
 leaf_takes Ins d p h =
     let m = map_some (λ n. shape (edits.Ins n)) (item_count_of d) p h in
     let r = item_count_takes d m.0 m.1 in
-    read_as _ _ p m.2 (record { tree = ap (one (codes "ins")) r.0; counts = r.1; numbers = refl })
+    read_as _ _ p m.2 (record { tree = ap (one_member (codes "ins")) r.0; counts = r.1; numbers = refl })
 leaf_takes Del d p h =
     let m = map_some (λ n. shape (edits.Del n)) (item_count_of d) p h in
     let r = item_count_takes d m.0 m.1 in
-    read_as _ _ p m.2 (record { tree = ap (one (codes "del")) r.0; counts = r.1; numbers = refl })
+    read_as _ _ p m.2 (record { tree = ap (one_member (codes "del")) r.0; counts = r.1; numbers = refl })
 leaf_takes Move (array (item i (item j no_items))) p h =
     let a = bind_some (λ i. option_map (λ j. shape (edits.MoveItem i j)) (count_of j)) (count_of i) p h in
     let m = map_some (λ j. shape (edits.MoveItem a.0 j)) (count_of j) p a.2 in
@@ -167,13 +168,13 @@ leaf_takes Move (array (item i (item j no_items))) p h =
 leaf_takes Reorder d p h =
     let m = map_some (λ ns. shape (edits.Reorder ns)) (numbers_of d) p h in
     let r = numbers_take d m.0 m.1 in
-    read_as _ _ p m.2 (record { tree = ap (one (codes "reorder")) r.0; counts = refl; numbers = r.1 })
+    read_as _ _ p m.2 (record { tree = ap (one_member (codes "reorder")) r.0; counts = refl; numbers = r.1 })
 leaf_takes Put d p h =
     let m = map_some (λ k. shape (edits.PutKey k)) (as_str d) p h in
-    read_as _ _ p m.2 (record { tree = ap (one (codes "put")) (text_takes d m.0 m.1); counts = refl; numbers = refl })
+    read_as _ _ p m.2 (record { tree = ap (one_member (codes "put")) (text_takes d m.0 m.1); counts = refl; numbers = refl })
 leaf_takes Drop d p h =
     let m = map_some (λ k. shape (edits.DropKey k)) (as_str d) p h in
-    read_as _ _ p m.2 (record { tree = ap (one (codes "drop")) (text_takes d m.0 m.1); counts = refl; numbers = refl })
+    read_as _ _ p m.2 (record { tree = ap (one_member (codes "drop")) (text_takes d m.0 m.1); counts = refl; numbers = refl })
 leaf_takes Rename (array (item k (item m no_items))) p h =
     let a = bind_some (λ k. option_map (λ m. shape (edits.RenameKey k m)) (as_str m)) (as_str k) p h in
     let b = map_some (λ m. shape (edits.RenameKey a.0 m)) (as_str m) p a.2 in
@@ -181,11 +182,11 @@ leaf_takes Rename (array (item k (item m no_items))) p h =
 leaf_takes Graft d p h =
     let m = map_some (λ q. shape (edits.Graft q)) (numbers_of d) p h in
     let r = numbers_take d m.0 m.1 in
-    read_as _ _ p m.2 (record { tree = ap (one (codes "graft")) r.0; counts = refl; numbers = r.1 })
+    read_as _ _ p m.2 (record { tree = ap (one_member (codes "graft")) r.0; counts = refl; numbers = r.1 })
 leaf_takes Prune d p h =
     let m = map_some (λ q. shape (edits.Prune q)) (numbers_of d) p h in
     let r = numbers_take d m.0 m.1 in
-    read_as _ _ p m.2 (record { tree = ap (one (codes "prune")) r.0; counts = refl; numbers = r.1 })
+    read_as _ _ p m.2 (record { tree = ap (one_member (codes "prune")) r.0; counts = refl; numbers = r.1 })
 leaf_takes Shift (array (item q (item i (item j no_items)))) p h =
     let a = bind_some (λ q. option_and_then (λ i. option_map (λ j. shape (edits.Shift q i j)) (count_of j)) (count_of i)) (numbers_of q) p h in
     let b = bind_some (λ i. option_map (λ j. shape (edits.Shift a.0 i j)) (count_of j)) (count_of i) p a.2 in
@@ -214,10 +215,10 @@ mutual
   primitive_takes : (d : Data) (p : PrimitiveTree) → primitive_of d ≡ Some p → IsRead d p
   primitive_takes (object (member k d no_members)) p h =
       let b = bind_some (λ kind. content_of kind d) (kind_of k) p h in
-      subst (λ name. IsRead (one name d) p) (sym (kind_found k b.0 b.1)) (content_takes b.0 d p b.2)
+      subst (λ name. IsRead (one_member name d) p) (sym (kind_found k b.0 b.1)) (content_takes b.0 d p b.2)
   primitive_takes d p h = cc
 
-  content_takes : (kind : Kind) (d : Data) (p : PrimitiveTree) → content_of kind d ≡ Some p → IsRead (one (name_of kind) d) p
+  content_takes : (kind : Kind) (d : Data) (p : PrimitiveTree) → content_of kind d ≡ Some p → IsRead (one_member (name_of kind) d) p
   content_takes At (array (item f (item w no_items))) p h =
       let b = bind_some (λ f. option_map (at f) (word_of_tree w)) (as_str f) p h in
       let m = map_some (at b.0) (word_of_tree w) p b.2 in
@@ -235,7 +236,7 @@ mutual
       let r = word_takes w m.0 m.1 in
       read_as _ _ p m.2 (record { tree = rw (text_takes a first.0 first.1, text_takes b second.0 second.1, r.0) refl; counts = r.1; numbers = r.2 })
   content_takes Mod (array (item q (item w no_items))) p h =
-      let b = bind_some (λ q. option_map (modify q) (word_of_tree w)) (place_of q) p h in
+      let b = bind_some (λ q. option_map (modify q) (word_of_tree w)) (data_place q) p h in
       let m = map_some (modify b.0) (word_of_tree w) p b.2 in
       let place = place_takes q b.0 b.1 in
       let r = word_takes w m.0 m.1 in

@@ -24,7 +24,8 @@ use Rattle.edit_module.specs.Words.{PrimitiveTree, set, add, splice, at, stay, s
 use Rattle.doc_values.specs.Integers.{fits_i64}
 use Rattle.value_json.specs.Numbers.{int_tree, count_tree, count_items}
 use Rattle.edit_json.specs.Values.{tree_of_counts, tree_of_atom, tree_of_place, fits_u64, all_fit_u64, atom_fits, place_fits}
-use Rattle.edit_json.specs.WordJson.{one, two, three, tree_of_shape_edit, tree_of_primitive, items_of_word, tree_of_word, edit_counts_fit, primitive_counts_fit, counts_fit, edit_numbers_fit, primitive_numbers_fit, numbers_fit}
+use Rattle.edit_json.specs.WordJson.{three, tree_of_shape_edit, tree_of_primitive, items_of_word, tree_of_word, edit_counts_fit, primitive_counts_fit, counts_fit, edit_numbers_fit, primitive_numbers_fit, numbers_fit}
+use Rattle.value_json.specs.SmallTrees.{one_member, array_of_two}
 use Rattle.edit_json.specs.Depths.{word_depth}
 use Rattle.edit_json.proofs.TreeDepths.{shallow}
 use Rattle.edit_json.proofs.WritingReadsBack.{is_u64}
@@ -60,10 +61,10 @@ item_reads d ds h k = record { same = rw (h.same, k.same) refl; numbers = (h.num
 pub array_reads : (ds : Items) → ItemsReadBack ds → ReadsBack (array ds)
 array_reads ds h = record { same = ap (option_map array) h.same; numbers = h.numbers; level = ap suc h.level }
 
-pub one_reads : (name : List ℕ) (d : Data) → ReadsBack d → ReadsBack (one name d)
+pub one_reads : (name : List ℕ) (d : Data) → ReadsBack d → ReadsBack (one_member name d)
 one_reads name d h = record { same = rw h.same refl; numbers = (h.numbers, tt); level = ap (λ n. suc (max n 0)) h.level }
 
-two_reads : (d e : Data) → ReadsBack d → ReadsBack e → ReadsBack (two d e)
+two_reads : (d e : Data) → ReadsBack d → ReadsBack e → ReadsBack (array_of_two d e)
 two_reads d e h k = array_reads (item d (item e no_items)) (item_reads d (item e no_items) h (item_reads e no_items k none_reads))
 
 three_reads : (d e f : Data) → ReadsBack d → ReadsBack e → ReadsBack f → ReadsBack (three d e f)
@@ -112,11 +113,11 @@ shape_reads : (e : ShapeEdit) → edit_counts_fit e ≡ true → edit_numbers_fi
 shape_reads (edits.Ins n) h k = one_reads _ (count_tree n) (count_reads n (is_u64 n h))
 shape_reads (edits.Del n) h k = one_reads _ (count_tree n) (count_reads n (is_u64 n h))
 shape_reads (edits.MoveItem i j) h k =
-    one_reads _ (two (count_tree i) (count_tree j)) (two_reads (count_tree i) (count_tree j) (count_reads i (left (fits_u64 i) (fits_u64 j) k)) (count_reads j (right (fits_u64 i) (fits_u64 j) k)))
+    one_reads _ (array_of_two (count_tree i) (count_tree j)) (two_reads (count_tree i) (count_tree j) (count_reads i (left (fits_u64 i) (fits_u64 j) k)) (count_reads j (right (fits_u64 i) (fits_u64 j) k)))
 shape_reads (edits.Reorder ns) h k = one_reads _ (tree_of_counts ns) (path_reads ns k)
 shape_reads (edits.PutKey s) h k = one_reads _ (string s) (string_reads s)
 shape_reads (edits.DropKey s) h k = one_reads _ (string s) (string_reads s)
-shape_reads (edits.RenameKey s t) h k = one_reads _ (two (string s) (string t)) (two_reads (string s) (string t) (string_reads s) (string_reads t))
+shape_reads (edits.RenameKey s t) h k = one_reads _ (array_of_two (string s) (string t)) (two_reads (string s) (string t) (string_reads s) (string_reads t))
 shape_reads (edits.Graft q) h k = one_reads _ (tree_of_counts q) (path_reads q k)
 shape_reads (edits.Prune q) h k = one_reads _ (tree_of_counts q) (path_reads q k)
 shape_reads (edits.Shift q i j) h k =
@@ -125,7 +126,7 @@ shape_reads (edits.Shift q i j) h k =
     one_reads _ (three (tree_of_counts q) (count_tree i) (count_tree j))
     (three_reads (tree_of_counts q) (count_tree i) (count_tree j) (path_reads q path) (count_reads i (left (fits_u64 i) (fits_u64 j) ends)) (count_reads j (right (fits_u64 i) (fits_u64 j) ends)))
 shape_reads (edits.Hang p q) h k =
-    one_reads _ (two (tree_of_counts p) (tree_of_counts q))
+    one_reads _ (array_of_two (tree_of_counts p) (tree_of_counts q))
     (two_reads (tree_of_counts p) (tree_of_counts q) (path_reads p (left (all_fit_u64 p) (all_fit_u64 q) k)) (path_reads q (right (all_fit_u64 p) (all_fit_u64 q) k)))
 
 mutual
@@ -135,12 +136,12 @@ mutual
   primitive_reads (splice i n s) h k =
       one_reads _ (three (count_tree i) (count_tree n) (string s))
       (three_reads (count_tree i) (count_tree n) (string s) (count_reads i (left (fits_u64 i) (fits_u64 n) k)) (count_reads n (right (fits_u64 i) (fits_u64 n) k)) (string_reads s))
-  primitive_reads (at f w) h k = one_reads _ (two (string f) (tree_of_word w)) (two_reads (string f) (tree_of_word w) (string_reads f) (array_reads (items_of_word w) (items_read w h k)))
-  primitive_reads (stay t w) h k = one_reads _ (two (string t) (tree_of_word w)) (two_reads (string t) (tree_of_word w) (string_reads t) (array_reads (items_of_word w) (items_read w h k)))
+  primitive_reads (at f w) h k = one_reads _ (array_of_two (string f) (tree_of_word w)) (two_reads (string f) (tree_of_word w) (string_reads f) (array_reads (items_of_word w) (items_read w h k)))
+  primitive_reads (stay t w) h k = one_reads _ (array_of_two (string t) (tree_of_word w)) (two_reads (string t) (tree_of_word w) (string_reads t) (array_reads (items_of_word w) (items_read w h k)))
   primitive_reads (switch a b w) h k =
       one_reads _ (three (string a) (string b) (tree_of_word w)) (three_reads (string a) (string b) (tree_of_word w) (string_reads a) (string_reads b) (array_reads (items_of_word w) (items_read w h k)))
   primitive_reads (modify p w) h k =
-      one_reads _ (two (tree_of_place p) (tree_of_word w))
+      one_reads _ (array_of_two (tree_of_place p) (tree_of_word w))
       (two_reads (tree_of_place p) (tree_of_word w) (place_reads p (left (place_fits p) (numbers_fit w) k)) (array_reads (items_of_word w) (items_read w h (right (place_fits p) (numbers_fit w) k))))
   primitive_reads (shape e) h k = shape_reads e h k
 

@@ -13,7 +13,7 @@ use Rattle.doc_values.specs.Integers.{fits_i64}
 use Rattle.value_json.specs.Numbers.{counts_of, int_tree, count_tree, count_items}
 use Rattle.texts.proofs.Conjunction.{first as left, second as right}
 use Rattle.value_json.proofs.WritingReadsBack.{int_again}
-use Rattle.edit_json.specs.Values.{tree_of_atom, tree_of_place, atom_of, place_of, item_count_of, fits_u64, all_fit_u64, atom_fits, place_fits}
+use Rattle.edit_json.specs.Values.{tree_of_atom, tree_of_place, atom_of, data_place, item_count_of, fits_u64, all_fit_u64, atom_fits, place_fits}
 use Rattle.edit_json.specs.WordJson.{tree_of_shape_edit, tree_of_primitive, items_of_word, tree_of_word, primitive_of, word_of_tree, word_of_items, edit_counts_fit, primitive_counts_fit, counts_fit, edit_numbers_fit, primitive_numbers_fit, numbers_fit}
 
 counts_again : (ns : List ℕ) → all_fit_u64 ns ≡ true → counts_of (count_items ns) ≡ Some ns
@@ -28,7 +28,7 @@ atom_again (atoms.Number n) h = number_again n h where
   number_again (negsuc n) h = rw h refl
 atom_again (atoms.Letters s) h = refl
 
-place_again : (p : Place) → place_fits p ≡ true → place_of (tree_of_place p) ≡ Some p
+place_again : (p : Place) → place_fits p ≡ true → data_place (tree_of_place p) ≡ Some p
 place_again (places.Index n) h = rw h refl
 place_again (places.Key k) h = refl
 place_again (places.Node q) h = ap (option_map places.Node) (counts_again q h)

@@ -1,5 +1,6 @@
 -- The values that primitives hold: their trees, the values that trees are, and the ranges of their numbers.
--- From the end: the ranges `place_fits` and `atom_fits`, then what trees are, `place_of` and `atom_of`, then the trees
+-- From the end: the ranges `place_fits` and `atom_fits`, then what trees are, `data_place` and `atom_of`, then the
+-- trees
 -- of values.
 use Rattle.std.specs.Prelude.{ℕ, ◌^◌, ◌&&◌, Bool, true, List, [], ◌∷◌, Option, Some, None, option_map, option_and_then}
 use Rattle.std.specs.Prelude.{if◌then◌else◌, nat_lt}
@@ -45,11 +46,11 @@ abbrev pub numbers_of : Data → Option (List ℕ)
 numbers_of d = option_and_then counts_of (as_array d)
 
 -- a u64 number, a string or a path
-abbrev pub place_of : Data → Option Place
-place_of (number n) = option_map Index (count_of (number n))
-place_of (string s) = Some (Key s)
-place_of (array ds) = option_map Node (counts_of ds)
-place_of _ = None
+abbrev pub data_place : Data → Option Place
+data_place (number n) = option_map Index (count_of (number n))
+data_place (string s) = Some (Key s)
+data_place (array ds) = option_map Node (counts_of ds)
+data_place _ = None
 
 -- a number of items, from 1 to 65,536
 abbrev pub if_count : ℕ → Option ℕ

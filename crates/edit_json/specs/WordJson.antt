@@ -11,7 +11,8 @@ use Rattle.edit_module.specs.Words.{no_primitives, more_primitives}
 use Rattle.doc_values.specs.Integers.{fits_i64}
 use Rattle.value_json.specs.Numbers.{int_of, count_of, int_tree, count_tree}
 use Rattle.edit_json.specs.Kinds.{kind_of}
-use Rattle.edit_json.specs.Values.{tree_of_counts, tree_of_atom, tree_of_place, atom_of, numbers_of, place_of}
+use Rattle.edit_json.specs.Values.{tree_of_counts, tree_of_atom, tree_of_place, atom_of, numbers_of, data_place}
+use Rattle.value_json.specs.SmallTrees.{one_member, array_of_two}
 use Rattle.edit_json.specs.Values.{item_count_of, fits_u64, all_fit_u64, atom_fits, place_fits}
 use Rattle.edit_json.specs.declared.kind.Kind.{Kind}
 use Rattle.edit_json.specs.declared.kind.Kind.TheVariants.{Set, Add, Splice, At, Stay, Switch, Mod, Ins, Del, Move}
@@ -19,40 +20,35 @@ use Rattle.edit_json.specs.declared.kind.Kind.TheVariants.{Reorder, Put, Drop, R
 
 -- ---- the tree of a word
 
--- an object with one member, and arrays of two and of three
-abbrev pub one : List ℕ → Data → Data
-one name content = object (member name content no_members)
-
-abbrev pub two : Data → Data → Data
-two d e = array (item d (item e no_items))
-
+-- an array of three items
 abbrev pub three : Data → Data → Data → Data
 three d e f = array (item d (item e (item f no_items)))
 
 -- an edit of a shape: an object with one member, whose name says what the edit does
 abbrev pub tree_of_shape_edit : ShapeEdit → Data
-tree_of_shape_edit (edits.Ins n) = one (codes "ins") (count_tree n)
-tree_of_shape_edit (edits.Del n) = one (codes "del") (count_tree n)
-tree_of_shape_edit (edits.MoveItem i j) = one (codes "move") (two (count_tree i) (count_tree j))
-tree_of_shape_edit (edits.Reorder ns) = one (codes "reorder") (tree_of_counts ns)
-tree_of_shape_edit (edits.PutKey k) = one (codes "put") (string k)
-tree_of_shape_edit (edits.DropKey k) = one (codes "drop") (string k)
-tree_of_shape_edit (edits.RenameKey k m) = one (codes "rename") (two (string k) (string m))
-tree_of_shape_edit (edits.Graft q) = one (codes "graft") (tree_of_counts q)
-tree_of_shape_edit (edits.Prune q) = one (codes "prune") (tree_of_counts q)
-tree_of_shape_edit (edits.Shift q i j) = one (codes "shift") (three (tree_of_counts q) (count_tree i) (count_tree j))
-tree_of_shape_edit (edits.Hang p q) = one (codes "hang") (two (tree_of_counts p) (tree_of_counts q))
+tree_of_shape_edit (edits.Ins n) = one_member (codes "ins") (count_tree n)
+tree_of_shape_edit (edits.Del n) = one_member (codes "del") (count_tree n)
+tree_of_shape_edit (edits.MoveItem i j) = one_member (codes "move") (array_of_two (count_tree i) (count_tree j))
+tree_of_shape_edit (edits.Reorder ns) = one_member (codes "reorder") (tree_of_counts ns)
+tree_of_shape_edit (edits.PutKey k) = one_member (codes "put") (string k)
+tree_of_shape_edit (edits.DropKey k) = one_member (codes "drop") (string k)
+tree_of_shape_edit (edits.RenameKey k m) = one_member (codes "rename") (array_of_two (string k) (string m))
+tree_of_shape_edit (edits.Graft q) = one_member (codes "graft") (tree_of_counts q)
+tree_of_shape_edit (edits.Prune q) = one_member (codes "prune") (tree_of_counts q)
+tree_of_shape_edit (edits.Shift q i j) =
+    one_member (codes "shift") (three (tree_of_counts q) (count_tree i) (count_tree j))
+tree_of_shape_edit (edits.Hang p q) = one_member (codes "hang") (array_of_two (tree_of_counts p) (tree_of_counts q))
 
 abbrev mutual
   -- a primitive: an object with one member, whose name says what the primitive does
   pub tree_of_primitive : PrimitiveTree → Data
-  tree_of_primitive (set v) = one (codes "set") (tree_of_atom v)
-  tree_of_primitive (add n) = one (codes "add") (int_tree n)
-  tree_of_primitive (splice i k s) = one (codes "splice") (three (count_tree i) (count_tree k) (string s))
-  tree_of_primitive (at f w) = one (codes "at") (two (string f) (array (items_of_word w)))
-  tree_of_primitive (stay t w) = one (codes "stay") (two (string t) (array (items_of_word w)))
-  tree_of_primitive (switch a b w) = one (codes "switch") (three (string a) (string b) (array (items_of_word w)))
-  tree_of_primitive (modify p w) = one (codes "mod") (two (tree_of_place p) (array (items_of_word w)))
+  tree_of_primitive (set v) = one_member (codes "set") (tree_of_atom v)
+  tree_of_primitive (add n) = one_member (codes "add") (int_tree n)
+  tree_of_primitive (splice i k s) = one_member (codes "splice") (three (count_tree i) (count_tree k) (string s))
+  tree_of_primitive (at f w) = one_member (codes "at") (array_of_two (string f) (array (items_of_word w)))
+  tree_of_primitive (stay t w) = one_member (codes "stay") (array_of_two (string t) (array (items_of_word w)))
+  tree_of_primitive (switch a b w) = one_member (codes "switch") (three (string a) (string b) (array (items_of_word w)))
+  tree_of_primitive (modify p w) = one_member (codes "mod") (array_of_two (tree_of_place p) (array (items_of_word w)))
   tree_of_primitive (shape e) = tree_of_shape_edit e
 
   -- an item for each primitive: its tree
@@ -106,7 +102,7 @@ unfoldable mutual
   content_of Switch (array (item a (item b (item w no_items)))) =
       option_and_then (λ a. option_and_then (λ b. option_map (switch a b) (word_of_tree w)) (as_str b)) (as_str a)
   content_of Mod (array (item p (item w no_items))) =
-      option_and_then (λ p. option_map (modify p) (word_of_tree w)) (place_of p)
+      option_and_then (λ p. option_map (modify p) (word_of_tree w)) (data_place p)
   content_of kind d = leaf_of kind d
 
   -- an array of primitives

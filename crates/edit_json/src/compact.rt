@@ -11,7 +11,8 @@ ghost use Rattle.value_json.specs.Numbers.{int_tree, count_tree};
 ghost use Rattle.edit_json.specs.Tokens.{tokens_of};
 ghost use Rattle.edit_json.specs.Values.{tree_of_counts, tree_of_atom, tree_of_place, all_fit_u64, atom_fits};
 ghost use Rattle.edit_json.specs.Values.{place_fits};
-ghost use Rattle.edit_json.specs.WordJson.{one, two, tree_of_shape_edit, tree_of_primitive, tree_of_word};
+ghost use Rattle.edit_json.specs.WordJson.{tree_of_shape_edit, tree_of_primitive, tree_of_word};
+ghost use Rattle.value_json.specs.SmallTrees.{one_member, array_of_two};
 ghost use Rattle.edit_json.specs.WordJson.{edit_numbers_fit, primitive_numbers_fit, numbers_fit};
 
 use edit_module::word::Primitive;
@@ -89,7 +90,8 @@ fn put_primitive(out: &mut Writer, primitive: &Primitive) -> Result<(), AllocErr
 fn put_inner(out: &mut Writer, name: &str, part: &Name, word: &Word) -> Result<(), AllocError>
     ensures before { out.new.before ≡ out.old.before }
     ensures tokens { OnOk result (out.new.tokens
-        ≡ out.old.tokens ++ tokens_of (one name.now (two (string part.now) (tree_of_word (word_tree word.now))))) }
+        ≡ out.old.tokens
+        ++ tokens_of (one_member name.now (array_of_two (string part.now) (tree_of_word (word_tree word.now))))) }
     ensures whole { OnOk result (numbers_fit (word_tree word.now) ≡ true) }
 {
     open_list(out, name)?;
@@ -131,7 +133,7 @@ fn put_mod(out: &mut Writer, place: &Place, word: &Word) -> Result<(), AllocErro
 fn put_set(out: &mut Writer, atom: &Atom) -> Result<(), AllocError>
     ensures before { out.new.before ≡ out.old.before }
     ensures tokens { OnOk result
-        (out.new.tokens ≡ out.old.tokens ++ tokens_of (one (codes "set") (tree_of_atom atom.now))) }
+        (out.new.tokens ≡ out.old.tokens ++ tokens_of (one_member (codes "set") (tree_of_atom atom.now))) }
     ensures whole { OnOk result (atom_fits atom.now ≡ true) }
 {
     open(out, "set")?;
@@ -142,7 +144,7 @@ fn put_set(out: &mut Writer, atom: &Atom) -> Result<(), AllocError>
 fn put_add(out: &mut Writer, number: i64) -> Result<(), AllocError>
     ensures before { out.new.before ≡ out.old.before }
     ensures tokens { OnOk result
-        (out.new.tokens ≡ out.old.tokens ++ tokens_of (one (codes "add") (int_tree number))) }
+        (out.new.tokens ≡ out.old.tokens ++ tokens_of (one_member (codes "add") (int_tree number))) }
 {
     open(out, "add")?;
     put_int(out, number)?;
@@ -188,7 +190,7 @@ fn put_shape(out: &mut Writer, edit: &ShapeEdit) -> Result<(), AllocError>
 fn put_count(out: &mut Writer, name: &str, count: u32) -> Result<(), AllocError>
     ensures before { out.new.before ≡ out.old.before }
     ensures tokens { OnOk result
-        (out.new.tokens ≡ out.old.tokens ++ tokens_of (one name.now (count_tree count))) }
+        (out.new.tokens ≡ out.old.tokens ++ tokens_of (one_member name.now (count_tree count))) }
 {
     open(out, name)?;
     out.u64(count as u64)?;
@@ -199,7 +201,7 @@ fn put_count(out: &mut Writer, name: &str, count: u32) -> Result<(), AllocError>
 fn put_key(out: &mut Writer, name: &str, key: &Name) -> Result<(), AllocError>
     ensures before { out.new.before ≡ out.old.before }
     ensures tokens { OnOk result
-        (out.new.tokens ≡ out.old.tokens ++ tokens_of (one name.now (string key.now))) }
+        (out.new.tokens ≡ out.old.tokens ++ tokens_of (one_member name.now (string key.now))) }
 {
     open(out, name)?;
     out.string(key.as_str())?;
@@ -210,7 +212,7 @@ fn put_key(out: &mut Writer, name: &str, key: &Name) -> Result<(), AllocError>
 fn put_path(out: &mut Writer, name: &str, numbers: &[u64]) -> Result<(), AllocError>
     ensures before { out.new.before ≡ out.old.before }
     ensures tokens { OnOk result
-        (out.new.tokens ≡ out.old.tokens ++ tokens_of (one name.now (tree_of_counts numbers.now))) }
+        (out.new.tokens ≡ out.old.tokens ++ tokens_of (one_member name.now (tree_of_counts numbers.now))) }
     ensures whole { OnOk result (all_fit_u64 numbers.now ≡ true) }
 {
     open(out, name)?;

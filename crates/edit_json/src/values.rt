@@ -4,7 +4,7 @@ ghost use Rattle.std.specs.Prelude.{◌≡◌};
 ghost use Rattle.serde_json.specs.View.{view};
 ghost use Rattle.serde_json.specs.Find.{as_str};
 ghost use Rattle.value_json.specs.Numbers.{int_of, count_of};
-ghost use Rattle.edit_json.specs.Values.{atom_of, numbers_of, place_of, item_count_of};
+ghost use Rattle.edit_json.specs.Values.{atom_of, numbers_of, data_place, item_count_of};
 ghost use Rattle.edit_json.specs.Reading.{Gives};
 
 use crate::fault::EditFault;
@@ -87,7 +87,7 @@ pub(crate) fn read_atom(alloc: Global, tree: &Value) -> Result<Atom, EditFault>
 
 // A u64 number, a string or a path.
 pub(crate) fn read_place(alloc: Global, tree: &Value) -> Result<Place, EditFault>
-    ensures { Gives (λ place. place) result (place_of (view tree.now)) }
+    ensures { Gives (λ place. place) result (data_place (view tree.now)) }
 {
     match tree {
         Value::Number(_) => Ok(Place::Index(read_number(tree)?)),

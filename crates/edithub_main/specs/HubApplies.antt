@@ -6,53 +6,55 @@ use Rattle.lens_io.specs.Calls.{IsUnasked, SourceFailed, SinkFailed, DiskFailed}
 use Rattle.lens_io.specs.declared.disk.Disk as OfDisk
 use Rattle.lens_io.specs.declared.sink.Sink as OfSink
 use Rattle.lens_io.specs.declared.source.Source as OfSource
+use Rattle.store_run.specs.Devices.{Devices}
 use Rattle.store_run.specs.ApplyCall.{ContinuesCall, IsUnopened, IsSafeCall, EndsCall}
 use Rattle.store_run.specs.InTime.{AnswersInTime}
 use Rattle.store_run.specs.Rooms.{most_bytes, TakesTooMany, RunHasNoRoom, IsApplyCause}
 use Rattle.hub_session.specs.contracts.instance.HubSessionStoredSession.TheImpl.{ghosts as hubs}
-use Rattle.edithub_main.specs.HubStores.{HubStore, RefusedHub, StaysInStep, RefusesHub}
+use Rattle.edithub_main.specs.HubStores.{HubStore, RefusedHub, HubStaysInStep, RefusesHub}
 use Rattle.command_ends.specs.declared.status.Status.{Status}
 use Rattle.command_ends.specs.declared.status.Status.TheVariants.{DiskFault, NoMemory}
 
 module _ {S K D : Type 0} (source : OfSource.Ghosts S) (sink : OfSink.Ghosts K) (disk : OfDisk.Ghosts D)
-    (old new : S × K × D) (status : Status) where
+    (old new : Devices S K D) (status : Status) where
   -- the store was not opened, and nothing has changed
   abbrev pub Unopened : Type 0
   Unopened = (status ≡ DiskFault) × IsUnopened source sink disk old new
 
   -- over the store of a hub
-  pub record GoesOn (store : HubStore disk old.2) : Type 0 where
+  pub record GoesOn (store : HubStore disk old.disk) : Type 0 where
     -- at its end the journal was read to its end; the answers of the run from the stored hub were written, and then
     -- its last state. The accepted changes are stored in order behind what was there, and the store represents the last
     -- hub.
     pub continues : IsFinished status
-        → ContinuesCall source sink disk hubs (old.0, old.1) new store.payloads store.state store.version status
+        → ContinuesCall source sink disk hubs (old.source, old.sink) new store.payloads store.state store.version status
     -- each view is in its lens's consistency relation with the hub, and so it is in every state of the run
-    pub in_step : StaysInStep store.state
+    pub in_step : HubStaysInStep store.state
     -- At every status: every line that had ended when the source was called last was answered, and its answer written,
     -- or the source was not called. After SourceFault and InputTooLong every line that has ended is answered.
-    pub in_time : AnswersInTime source sink hubs (old.0, old.1) (new.0, new.1) store.state status
+    pub in_time : AnswersInTime source sink hubs (old.source, old.sink) (new.source, new.sink) store.state status
     -- what was taken, written and stored at every status
     pub stops : EndsCall source sink disk hubs old new store.payloads store.state store.version status
     -- At the end of the call, whatever its status, an image of a crash has each change whose `ok` line was written, and
     -- at most one more. An image of any moment of the call was possible before it, or holds what was stored before and
     -- the first of the changes that follow.
     pub survives : Unopened
-        ⊎ IsSafeCall source sink disk hubs old new (disk.images old.2) store.payloads store.state store.version
+        ⊎ IsSafeCall source sink disk hubs old new (disk.images old.disk) store.payloads store.state store.version
     -- after StoreRefused the log had no room for a payload of the run, after DiskFault the disk had none if its room is
     -- known, and after InputTooLong too many bytes were taken
-    pub caused : IsApplyCause source disk hubs (old.0, old.2)
-        (new.0, new.2) store.payloads store.state store.version status
+    pub caused : IsApplyCause source disk hubs (old.source, old.disk)
+        (new.source, new.disk) store.payloads store.state store.version status
     -- it comes to its end, or memory runs out, if no device fails, not too many bytes are taken and the log has room
-    pub completes : (SourceFailed source old.0 new.0 → ⊥) → (SinkFailed sink old.1 new.1 → ⊥)
-        → (DiskFailed disk old.2 new.2 → ⊥)
-        → (TakesTooMany source old.0 new.0 → ⊥)
-        → (RunHasNoRoom source hubs old.0 new.0 most_bytes store.payloads store.state store.version → ⊥)
+    pub completes : (SourceFailed source old.source new.source → ⊥) → (SinkFailed sink old.sink new.sink → ⊥)
+        → (DiskFailed disk old.disk new.disk → ⊥)
+        → (TakesTooMany source old.source new.source → ⊥)
+        → (RunHasNoRoom source hubs old.source new.source most_bytes store.payloads store.state store.version → ⊥)
         → IsFinished status ⊎ (status ≡ NoMemory)
 
   pub record HubApplies : Type 0 where
-    pub of_store : (store : HubStore disk old.2) → GoesOn store
+    pub of_store : (store : HubStore disk old.disk) → GoesOn store
     -- over bytes that are no store of a hub the line `store refused: REASON` was written, unless a device failed or
     -- memory ran out; nothing is written to the disk, and the source is not called
-    pub refuses : (other : RefusedHub disk old.2)
-        → RefusesHub sink disk (old.1, old.2) (new.1, new.2) status other.reason × IsUnasked source old.0 new.0
+    pub refuses : (other : RefusedHub disk old.disk)
+        → RefusesHub sink disk (old.sink, old.disk) (new.sink, new.disk) status other.reason
+        × IsUnasked source old.source new.source

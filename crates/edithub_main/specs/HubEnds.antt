@@ -1,6 +1,6 @@
 -- What each command promises, a line for each; how each may end; and what holds of every call, whatever its words.
 use Rattle.std.specs.Prelude.{◌≡◌, ◌⊎◌, List, [], ◌∷◌, false, Option, Some, None}
-use Rattle.command_ends.specs.Statuses.{IsAmong, apply_statuses, init_statuses, quiet_statuses}
+use Rattle.command_ends.specs.Statuses.{IsStatusAmong, apply_statuses, init_statuses, quiet_statuses}
 use Rattle.command_ends.specs.declared.status.Status.{Status}
 use Rattle.command_ends.specs.declared.status.Status.TheVariants.{Usage, SourceFault, SinkFault, DiskFault}
 use Rattle.lens_io.specs.Calls.{SourceFailed, Gave, GaveFront, SinkFailed, DiskFailed}
@@ -9,52 +9,46 @@ use Rattle.lens_io.specs.declared.sink.Sink as OfSink
 use Rattle.lens_io.specs.declared.source.Source as OfSource
 use Rattle.edithub_main.specs.HubAdds.{HubAdds}
 use Rattle.edithub_main.specs.HubApplies.{HubApplies}
-use Rattle.edithub_main.specs.HubOrders.{reads_source, uses_disk, usage_line}
+use Rattle.edithub_main.specs.HubOrders.{hub_reads_source, hub_uses_disk, hub_usage_line}
 use Rattle.edithub_main.specs.HubPacks.{HubPacks}
 use Rattle.edithub_main.specs.HubShows.{HubShows, HubVerifies}
 use Rattle.edithub_main.specs.HubUndoes.{HubUndoes}
 use Rattle.edithub_main.specs.MakesHub.{MakesHub}
 use Rattle.edithub_main.specs.declared.words.HubOrder.{HubOrder}
 use Rattle.edithub_main.specs.declared.words.HubOrder.TheVariants as order
+use Rattle.store_run.specs.Devices.{Devices}
 
 module _ {S K D : Type 0} (source : OfSource.Ghosts S) (sink : OfSink.Ghosts K) (disk : OfDisk.Ghosts D)
-    (old new : S × K × D) (status : Status) where
+    (old new : Devices S K D) (status : Status) where
   abbrev pub EndsOrder : HubOrder → Type 0
   EndsOrder order.Init = MakesHub source sink disk old new status
   EndsOrder order.Apply = HubApplies source sink disk old new status
-  EndsOrder order.Show = HubShows sink disk (old.1, old.2) (new.1, new.2) status
-  EndsOrder order.Verify = HubVerifies sink disk (old.1, old.2) (new.1, new.2) status
-  EndsOrder order.Pack = HubPacks sink disk (old.1, old.2) (new.1, new.2) status
-  EndsOrder (order.Undo count) = HubUndoes count sink disk (old.1, old.2) (new.1, new.2) status
+  EndsOrder order.Show = HubShows sink disk (old.sink, old.disk) (new.sink, new.disk) status
+  EndsOrder order.Verify = HubVerifies sink disk (old.sink, old.disk) (new.sink, new.disk) status
+  EndsOrder order.Pack = HubPacks sink disk (old.sink, old.disk) (new.sink, new.disk) status
+  EndsOrder (order.Undo count) = HubUndoes count sink disk (old.sink, old.disk) (new.sink, new.disk) status
   EndsOrder order.Add = HubAdds source sink disk old new status
 
 -- the statuses of a command; and of words that name none
-abbrev pub statuses_of : Option HubOrder → List Status
-statuses_of None = Usage ∷ SinkFault ∷ []
-statuses_of (Some order.Init) = init_statuses
-statuses_of (Some order.Apply) = apply_statuses
-statuses_of (Some order.Show) = quiet_statuses
-statuses_of (Some order.Verify) = quiet_statuses
-statuses_of (Some order.Pack) = quiet_statuses
-statuses_of (Some (order.Undo count)) = quiet_statuses
-statuses_of (Some order.Add) = init_statuses
+abbrev pub hub_statuses_of : Option HubOrder → List Status
+hub_statuses_of None = Usage ∷ SinkFault ∷ []
+hub_statuses_of (Some order.Init) = init_statuses
+hub_statuses_of (Some order.Apply) = apply_statuses
+hub_statuses_of (Some order.Show) = quiet_statuses
+hub_statuses_of (Some order.Verify) = quiet_statuses
+hub_statuses_of (Some order.Pack) = quiet_statuses
+hub_statuses_of (Some (order.Undo count)) = quiet_statuses
+hub_statuses_of (Some order.Add) = init_statuses
 
-abbrev pub MayEnd : Option HubOrder → Status → Type 0
-MayEnd o status = IsAmong (statuses_of o) status
+abbrev pub HubMayEnd : Option HubOrder → Status → Type 0
+HubMayEnd o status = IsStatusAmong (hub_statuses_of o) status
 
 -- the usage line was written, or a beginning of it and the sink failed
-abbrev pub GivesUsage : {K : Type 0} → OfSink.Ghosts K → K → K → Status → Type 0
-GivesUsage sink old new status =
-    (status ≡ Usage) × Gave sink old new usage_line ⊎ (status ≡ SinkFault) × GaveFront sink old new usage_line
+abbrev pub GivesHubUsage : {K : Type 0} → OfSink.Ghosts K → K → K → Status → Type 0
+GivesHubUsage sink old new status =
+    (status ≡ Usage) × Gave sink old new hub_usage_line ⊎ (status ≡ SinkFault) × GaveFront sink old new hub_usage_line
 
 -- a source and a disk that the command does not use are as they were
-pub record LeavesAlone {S D : Type 0} (o : Option HubOrder) (old new : S × D) : Type 0 where
-  pub unread : reads_source o ≡ false → new.0 ≡ old.0
-  pub untouched : uses_disk o ≡ false → new.1 ≡ old.1
-
--- these statuses come only if the device failed
-pub record IsCaused {S K D : Type 0} (source : OfSource.Ghosts S) (sink : OfSink.Ghosts K) (disk : OfDisk.Ghosts D)
-    (old new : S × K × D) (status : Status) : Type 0 where
-  pub source_fault : status ≡ SourceFault → SourceFailed source old.0 new.0
-  pub sink_fault : status ≡ SinkFault → SinkFailed sink old.1 new.1
-  pub disk_fault : status ≡ DiskFault → DiskFailed disk old.2 new.2
+pub record HubLeavesAlone {S D : Type 0} (o : Option HubOrder) (old new : S × D) : Type 0 where
+  pub unread : hub_reads_source o ≡ false → new.source ≡ old.source
+  pub untouched : hub_uses_disk o ≡ false → new.sink ≡ old.sink

@@ -7,7 +7,7 @@ use Rattle.lens_io.specs.declared.sink.Sink as OfSink
 use Rattle.store_run.specs.PackCall.{PacksCall, IsUnpacked, IsSafePack, EndsPack}
 use Rattle.store_run.specs.Rooms.{most_bytes, PackHasNoRoom, IsPackCause}
 use Rattle.hub_session.specs.contracts.instance.HubSessionStoredSession.TheImpl.{ghosts as hubs}
-use Rattle.edithub_main.specs.HubStores.{HubStore, RefusedHub, IsStateInStep, RefusesHub}
+use Rattle.edithub_main.specs.HubStores.{HubStore, RefusedHub, IsHubStateInStep, RefusesHub}
 use Rattle.command_ends.specs.declared.status.Status.{Status}
 use Rattle.command_ends.specs.declared.status.Status.TheVariants.{Done, DiskFault, NoMemory}
 
@@ -21,7 +21,7 @@ module _ {K D : Type 0} (sink : OfSink.Ghosts K) (disk : OfDisk.Ghosts D) (old n
     -- at its end a snapshot is stored, and the store represents the same hub with the same number of changes
     pub continues : IsFinished status → PacksCall sink disk hubs old.0 new store.payloads store.state store.version
     -- each view is in its lens's consistency relation with the hub
-    pub in_step : IsStateInStep store.state
+    pub in_step : IsHubStateInStep store.state
     -- what was written and stored at every status
     pub stops : EndsPack sink disk hubs old new store.payloads store.state store.version status
     -- an image of a crash, at each moment of the call and at its end, was possible before the call, or represents the

@@ -7,18 +7,18 @@ use Rattle.lens_io.specs.declared.sink.Sink as OfSink
 use Rattle.store_run.specs.CountLines.{consistent_line}
 use Rattle.store_run.specs.Refusals.{IsUnwritten}
 use Rattle.store_run.specs.ViewCall as call
-use Rattle.hub_run.specs.Runs.{HubState, state_text}
-use Rattle.hub_session.specs.HubStates.{count_of}
-use Rattle.edithub_main.specs.HubStores.{HubStore, RefusedHub, IsStateInStep, RefusesHub}
+use Rattle.hub_run.specs.Runs.{HubState, hub_state_text}
+use Rattle.hub_session.specs.HubStates.{hub_changes_counted}
+use Rattle.edithub_main.specs.HubStores.{HubStore, RefusedHub, IsHubStateInStep, RefusesHub}
 use Rattle.command_ends.specs.declared.status.Status.{Status}
 use Rattle.command_ends.specs.declared.status.Status.TheVariants.{Done, DiskFault, NoMemory}
 
 -- what `show` writes of a hub, and what `verify` writes of the payloads that represent it
-abbrev pub shown : HubState → List (List ℕ) → List ℕ
-shown state payloads = state_text state
+abbrev pub hub_shown : HubState → List (List ℕ) → List ℕ
+hub_shown state payloads = hub_state_text state
 
-abbrev pub verified : HubState → List (List ℕ) → List ℕ
-verified state payloads = consistent_line (count_of payloads)
+abbrev pub hub_verified : HubState → List (List ℕ) → List ℕ
+hub_verified state payloads = consistent_line (hub_changes_counted payloads)
 
 module _ {K D : Type 0} (sink : OfSink.Ghosts K) (disk : OfDisk.Ghosts D) (old new : K × D) (status : Status) where
   -- what is written of a hub and its payloads is given by `text`
@@ -27,7 +27,7 @@ module _ {K D : Type 0} (sink : OfSink.Ghosts K) (disk : OfDisk.Ghosts D) (old n
     -- them, or the disk failed or memory ran out before
     pub reports : (store : HubStore disk old.1) → call.Views sink old.0 new.0 (text store.state store.payloads) status
     -- each view is in its lens's consistency relation with the hub
-    pub in_step : (store : HubStore disk old.1) → IsStateInStep store.state
+    pub in_step : (store : HubStore disk old.1) → IsHubStateInStep store.state
     -- over a store it comes to its end, or memory runs out, if no device fails
     pub completes : HubStore disk old.1 → (SinkFailed sink old.0 new.0 → ⊥) → (DiskFailed disk old.1 new.1 → ⊥)
         → (status ≡ Done) ⊎ (status ≡ NoMemory)
@@ -42,7 +42,7 @@ module _ {K D : Type 0} (sink : OfSink.Ghosts K) (disk : OfDisk.Ghosts D) (old n
     pub caused : status ≡ DiskFault → IsNone (disk.room old.1)
 
   abbrev pub HubShows : Type 0
-  HubShows = ReadsHub shown
+  HubShows = ReadsHub hub_shown
 
   abbrev pub HubVerifies : Type 0
-  HubVerifies = ReadsHub verified
+  HubVerifies = ReadsHub hub_verified

@@ -24,14 +24,14 @@ abbrev pub RefusedHub : {D : Type 0} → OfDisk.Ghosts D → D → Type 0
 RefusedHub disk d = stores.RefusedStore disk hubs d
 
 -- each view's complement and document are in its lens's consistency relation with the hub's document
-abbrev pub IsStateInStep : HubState → Type 0
-IsStateInStep state = IsHub form_lens state.forms state.hub
+abbrev pub IsHubStateInStep : HubState → Type 0
+IsHubStateInStep state = IsHub form_lens state.forms state.hub
 
 -- The state is in step, and so is every state of a run of a journal from it on.
-pub record StaysInStep (state : HubState) : Type 0 where
-  pub first : IsStateInStep state
+pub record HubStaysInStep (state : HubState) : Type 0 where
+  pub first : IsHubStateInStep state
   pub runs : (lines : List Line) (steps : List (HubState × StoredAnswer)) → run hubs state 0 lines ≡ Some steps
-      → All (λ step. IsStateInStep step.0) steps
+      → All (λ step. IsHubStateInStep step.0) steps
 
 module _ {K D : Type 0} (sink : OfSink.Ghosts K) (disk : OfDisk.Ghosts D) (old new : K × D) (status : Status) where
   -- The line `store refused: REASON` was written in place of all else, and nothing to the disk. Only a disk whose room

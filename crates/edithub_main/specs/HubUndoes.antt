@@ -7,7 +7,7 @@ use Rattle.lens_io.specs.declared.sink.Sink as OfSink
 use Rattle.store_run.specs.Rooms.{most_bytes}
 use Rattle.store_run.specs.MoreCall.{IsUntouched, Exits}
 use Rattle.store_run.specs.MoreCauses.{OneHasNoRoom, IsMoreCause}
-use Rattle.hub_undo.specs.HubUndoing.{snapshot_text, undo_text}
+use Rattle.hub_undo.specs.HubUndoing.{hub_undo_snapshot_text, hub_undo_text}
 use Rattle.hub_undo.specs.UndoCall.{HubToUndo, IsSafeUndo, RefusedToUndo, UndoesCall}
 use Rattle.edithub_main.specs.HubStores.{RefusesHub}
 use Rattle.command_ends.specs.declared.status.Status.{Status}
@@ -25,16 +25,18 @@ module _ (count : ℕ) {K D : Type 0} (sink : OfSink.Ghosts K) (disk : OfDisk.Gh
     -- That hub is in step, the store represents it, and the words that were written take each document back.
     pub continues : status ≡ Done → UndoesCall sink disk old new store.payloads store.undone
     -- what was written and stored at every status
-    pub stops : Exits sink disk old new store.payloads (snapshot_text store.undone) (undo_text store.undone) status
+    pub stops : Exits sink disk old new store.payloads (hub_undo_snapshot_text store.undone)
+        (hub_undo_text store.undone)
+        status
     -- an image of a crash, at each moment of the call and at its end, was possible before the call, or represents the
     -- hub before the last changes or the one from before the call
     pub survives : Unopened ⊎ IsSafeUndo disk old.1 new.1 store.payloads store.undone
     -- after StoreRefused the log had no room for the snapshot, and after DiskFault the disk had none if its room is
     -- known
-    pub caused : IsMoreCause disk old.1 store.payloads (snapshot_text store.undone) status
+    pub caused : IsMoreCause disk old.1 store.payloads (hub_undo_snapshot_text store.undone) status
     -- it comes to its end, or memory runs out, if no device fails and the log has room
     pub completes : (SinkFailed sink old.0 new.0 → ⊥) → (DiskFailed disk old.1 new.1 → ⊥)
-        → (OneHasNoRoom most_bytes store.payloads (snapshot_text store.undone) → ⊥)
+        → (OneHasNoRoom most_bytes store.payloads (hub_undo_snapshot_text store.undone) → ⊥)
         → (status ≡ Done) ⊎ (status ≡ NoMemory)
 
   pub record HubUndoes : Type 0 where

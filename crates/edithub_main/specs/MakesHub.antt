@@ -9,9 +9,10 @@ use Rattle.store_new.specs.NewEnds.{Ends, Completes, KeepsStore, RefusesAtOnce}
 use Rattle.store_new.specs.NewRooms.{ScriptHasNoRoom}
 use Rattle.command_ends.specs.declared.status.Status.{Status}
 use Rattle.command_ends.specs.declared.status.Status.TheVariants.{Done, DiskFault}
+use Rattle.store_run.specs.Devices.{Devices}
 
 module _ {S K D : Type 0} (source : OfSource.Ghosts S) (sink : OfSink.Ghosts K) (disk : OfDisk.Ghosts D)
-    (old new : S × K × D) (status : Status) where
+    (old new : Devices S K D) (status : Status) where
   pub record MakesHub : Type 0 where
     -- after Done the script was read to its end and the disk was empty; it holds the programs alone, in each image that
     -- a crash may leave too. They represent the first hub of their lenses, whose state lines were written.
@@ -21,9 +22,10 @@ module _ {S K D : Type 0} (source : OfSource.Ghosts S) (sink : OfSink.Ghosts K) 
     -- A program part that is whole and refused is refused, whatever comes after it, unless the sink failed or memory
     -- ran out. Then at most the rest of the call of the source that ended its separator was read; where no separator
     -- came, the source is at its end.
-    pub at_once : RefusesAtOnce view_programs source old.0 new.0 status
+    pub at_once : RefusesAtOnce view_programs source old.source new.source status
     -- a disk of known room fails only if the script was read to its end and the disk has no room for its store
-    pub caused : status ≡ DiskFault → IfSome (disk.room old.2) (ScriptHasNoRoom source hub_command old.0 new.0)
+    pub caused : status ≡ DiskFault
+        → IfSome (disk.room old.disk) (ScriptHasNoRoom source hub_command old.source new.source)
     -- over an empty disk and at most 2^30 bytes, if no device fails and the log has room, it comes to its end, or
     -- refuses the program part, or memory runs out
     pub completes : Completes source sink disk hub_command old new status

@@ -2,11 +2,11 @@
 ghost use Rattle.std.specs.Prelude.{◌≡◌, ℕ, List, Some, Ok};
 ghost use Rattle.std.specs.declared.option.Option.{Option};
 ghost use Rattle.hub_run.specs.Runs.{HubState};
-ghost use Rattle.hub_session.specs.HubStates.{stands_for};
+ghost use Rattle.hub_session.specs.HubStates.{hub_stands_for};
 ghost use Rattle.store_run.specs.Refusals.{refusal_in};
 ghost use Rattle.store_run.specs.declared.refusals.StoreRefusal.{StoreRefusal};
-ghost use Rattle.edithub_main.specs.HubBytes.{HoldsHub, IsRefusedOrInStep};
-ghost use Rattle.edithub_main.specs.HubStores.{StaysInStep};
+ghost use Rattle.edithub_main.specs.HubBytes.{HoldsHub, IsRefusedOrHub};
+ghost use Rattle.edithub_main.specs.HubStores.{HubStaysInStep};
 
 use hub_session::HubSession;
 use store_run::StoredSession;
@@ -15,7 +15,7 @@ use store_run::StoredSession;
 /// lens's consistency relation with the hub's document, and so it is in every state of a run from it on.
 pub fn every_stored_hub_stays_in_step()
     ensures { (payloads : List (List ℕ)) (state : HubState) (version : Option (List ℕ))
-        → stands_for payloads ≡ Ok (state, version) → StaysInStep state }
+        → hub_stands_for payloads ≡ Ok (state, version) → HubStaysInStep state }
 {}
 
 /// Whatever bytes a disk holds, they are refused as the store of a hub, or they are a log whose payloads represent a
@@ -24,7 +24,7 @@ pub fn every_stored_hub_stays_in_step()
 /// - `either`: one of the two is so for all bytes, so the commands over a store refuse them or go on from such a hub.
 /// - `one`: both are never so.
 pub fn every_disk_is_refused_or_holds_a_hub()
-    ensures either { (bytes : List ℕ) → IsRefusedOrInStep bytes }
+    ensures either { (bytes : List ℕ) → IsRefusedOrHub bytes }
     ensures one { (bytes : List ℕ) (refusal : StoreRefusal) → refusal_in ⟦<HubSession as StoredSession>⟧ bytes
         ≡ Some refusal → HoldsHub bytes → ⊥ }
 {}

@@ -1,5 +1,5 @@
 //! The commands: each is a call of the crate that has it, and its record follows from that call's clauses.
-ghost use Rattle.command_ends.specs.Statuses.{IsAmong, apply_statuses, init_statuses, quiet_statuses};
+ghost use Rattle.command_ends.specs.Statuses.{IsStatusAmong, apply_statuses, init_statuses, quiet_statuses};
 ghost use Rattle.std.specs.Prelude.{◌≡◌};
 ghost use Rattle.lens_io.specs.Calls.{SourceFailed, SinkFailed, DiskFailed};
 ghost use Rattle.edithub_main.specs.HubAdds.{HubAdds};
@@ -8,6 +8,7 @@ ghost use Rattle.edithub_main.specs.HubPacks.{HubPacks};
 ghost use Rattle.edithub_main.specs.HubShows.{HubShows, HubVerifies};
 ghost use Rattle.edithub_main.specs.HubUndoes.{HubUndoes};
 ghost use Rattle.edithub_main.specs.MakesHub.{MakesHub};
+ghost use Rattle.store_run.specs.Devices.{devices_of};
 
 use command_ends::Status;
 use hub_add::add;
@@ -26,8 +27,8 @@ pub fn run_init<S: Source, K: Sink, D: Disk>(
     disk: &mut D,
 ) -> Status
     ensures makes { MakesHub S.Source K.Sink D.Disk
-        (source.old, sink.old, disk.old) (source.new, sink.new, disk.new) result }
-    ensures statuses { IsAmong init_statuses result }
+        (devices_of source.old sink.old disk.old) (devices_of source.new sink.new disk.new) result }
+    ensures statuses { IsStatusAmong init_statuses result }
     ensures source_fault { result ≡ Status.SourceFault → SourceFailed S.Source source.old source.new }
     ensures sink_fault { result ≡ Status.SinkFault → SinkFailed K.Sink sink.old sink.new }
     ensures disk_fault { result ≡ Status.DiskFault → DiskFailed D.Disk disk.old disk.new }
@@ -43,8 +44,8 @@ pub fn run_apply<S: Source, K: Sink, D: Disk>(
     disk: &mut D,
 ) -> Status
     ensures applies { HubApplies S.Source K.Sink D.Disk
-        (source.old, sink.old, disk.old) (source.new, sink.new, disk.new) result }
-    ensures statuses { IsAmong apply_statuses result }
+        (devices_of source.old sink.old disk.old) (devices_of source.new sink.new disk.new) result }
+    ensures statuses { IsStatusAmong apply_statuses result }
     ensures source_fault { result ≡ Status.SourceFault → SourceFailed S.Source source.old source.new }
     ensures sink_fault { result ≡ Status.SinkFault → SinkFailed K.Sink sink.old sink.new }
     ensures disk_fault { result ≡ Status.DiskFault → DiskFailed D.Disk disk.old disk.new }
@@ -55,7 +56,7 @@ pub fn run_apply<S: Source, K: Sink, D: Disk>(
 /// Shows the hub of the store.
 pub fn run_show<K: Sink, D: Disk>(alloc: Global, sink: &mut K, disk: &mut D) -> Status
     ensures shows { HubShows K.Sink D.Disk (sink.old, disk.old) (sink.new, disk.new) result }
-    ensures statuses { IsAmong quiet_statuses result }
+    ensures statuses { IsStatusAmong quiet_statuses result }
     ensures sink_fault { result ≡ Status.SinkFault → SinkFailed K.Sink sink.old sink.new }
     ensures disk_fault { result ≡ Status.DiskFault → DiskFailed D.Disk disk.old disk.new }
 {
@@ -65,7 +66,7 @@ pub fn run_show<K: Sink, D: Disk>(alloc: Global, sink: &mut K, disk: &mut D) -> 
 /// Counts the changes of the store.
 pub fn run_verify<K: Sink, D: Disk>(alloc: Global, sink: &mut K, disk: &mut D) -> Status
     ensures verifies { HubVerifies K.Sink D.Disk (sink.old, disk.old) (sink.new, disk.new) result }
-    ensures statuses { IsAmong quiet_statuses result }
+    ensures statuses { IsStatusAmong quiet_statuses result }
     ensures sink_fault { result ≡ Status.SinkFault → SinkFailed K.Sink sink.old sink.new }
     ensures disk_fault { result ≡ Status.DiskFault → DiskFailed D.Disk disk.old disk.new }
 {
@@ -75,7 +76,7 @@ pub fn run_verify<K: Sink, D: Disk>(alloc: Global, sink: &mut K, disk: &mut D) -
 /// Adds a snapshot to the store.
 pub fn run_pack<K: Sink, D: Disk>(alloc: Global, sink: &mut K, disk: &mut D) -> Status
     ensures packs { HubPacks K.Sink D.Disk (sink.old, disk.old) (sink.new, disk.new) result }
-    ensures statuses { IsAmong quiet_statuses result }
+    ensures statuses { IsStatusAmong quiet_statuses result }
     ensures sink_fault { result ≡ Status.SinkFault → SinkFailed K.Sink sink.old sink.new }
     ensures disk_fault { result ≡ Status.DiskFault → DiskFailed D.Disk disk.old disk.new }
 {
@@ -85,7 +86,7 @@ pub fn run_pack<K: Sink, D: Disk>(alloc: Global, sink: &mut K, disk: &mut D) -> 
 /// Takes the last changes of the store back.
 pub fn run_undo<K: Sink, D: Disk>(alloc: Global, count: u64, sink: &mut K, disk: &mut D) -> Status
     ensures undoes { HubUndoes count K.Sink D.Disk (sink.old, disk.old) (sink.new, disk.new) result }
-    ensures statuses { IsAmong quiet_statuses result }
+    ensures statuses { IsStatusAmong quiet_statuses result }
     ensures sink_fault { result ≡ Status.SinkFault → SinkFailed K.Sink sink.old sink.new }
     ensures disk_fault { result ≡ Status.DiskFault → DiskFailed D.Disk disk.old disk.new }
 {
@@ -100,8 +101,8 @@ pub fn run_add<S: Source, K: Sink, D: Disk>(
     disk: &mut D,
 ) -> Status
     ensures adds { HubAdds S.Source K.Sink D.Disk
-        (source.old, sink.old, disk.old) (source.new, sink.new, disk.new) result }
-    ensures statuses { IsAmong init_statuses result }
+        (devices_of source.old sink.old disk.old) (devices_of source.new sink.new disk.new) result }
+    ensures statuses { IsStatusAmong init_statuses result }
     ensures source_fault { result ≡ Status.SourceFault → SourceFailed S.Source source.old source.new }
     ensures sink_fault { result ≡ Status.SinkFault → SinkFailed K.Sink sink.old sink.new }
     ensures disk_fault { result ≡ Status.DiskFault → DiskFailed D.Disk disk.old disk.new }

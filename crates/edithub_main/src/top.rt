@@ -3,8 +3,10 @@ ghost use Rattle.std.specs.Prelude.{◌≡◌, ℕ, Some, None, false};
 ghost use Rattle.lens_io.specs.Calls.{SourceFailed, SinkFailed, DiskFailed};
 ghost use Rattle.edithub_main.specs.HubAdds.{HubAdds};
 ghost use Rattle.edithub_main.specs.HubApplies.{HubApplies};
-ghost use Rattle.edithub_main.specs.HubEnds.{EndsOrder, GivesUsage, IsCaused, LeavesAlone, MayEnd};
-ghost use Rattle.edithub_main.specs.HubOrders.{order_named, reads_source, uses_disk};
+ghost use Rattle.edithub_main.specs.HubEnds.{EndsOrder, GivesHubUsage, HubLeavesAlone, HubMayEnd};
+ghost use Rattle.store_run.specs.Devices.{devices_of};
+ghost use Rattle.store_run.specs.FaultCauses.{FaultsAreCaused};
+ghost use Rattle.edithub_main.specs.HubOrders.{hub_order_named, hub_reads_source, hub_uses_disk};
 ghost use Rattle.edithub_main.specs.HubPacks.{HubPacks};
 ghost use Rattle.edithub_main.specs.HubShows.{HubShows, HubVerifies};
 ghost use Rattle.edithub_main.specs.HubUndoes.{HubUndoes};
@@ -44,25 +46,28 @@ pub fn edithub<S: Source, K: Sink, D: Disk>(
     sink: &mut K,
     disk: &mut D,
 ) -> Status
-    ensures init { order_named words.now ≡ Some Init
-        → MakesHub S.Source K.Sink D.Disk (source.old, sink.old, disk.old) (source.new, sink.new, disk.new) result }
-    ensures apply { order_named words.now ≡ Some Apply
-        → HubApplies S.Source K.Sink D.Disk (source.old, sink.old, disk.old) (source.new, sink.new, disk.new) result }
-    ensures show { order_named words.now ≡ Some Show
+    ensures init { hub_order_named words.now ≡ Some Init
+        → MakesHub S.Source K.Sink D.Disk (devices_of source.old sink.old disk.old)
+        (devices_of source.new sink.new disk.new) result }
+    ensures apply { hub_order_named words.now ≡ Some Apply
+        → HubApplies S.Source K.Sink D.Disk (devices_of source.old sink.old disk.old)
+        (devices_of source.new sink.new disk.new) result }
+    ensures show { hub_order_named words.now ≡ Some Show
         → HubShows K.Sink D.Disk (sink.old, disk.old) (sink.new, disk.new) result }
-    ensures verify { order_named words.now ≡ Some Verify
+    ensures verify { hub_order_named words.now ≡ Some Verify
         → HubVerifies K.Sink D.Disk (sink.old, disk.old) (sink.new, disk.new) result }
-    ensures pack { order_named words.now ≡ Some Pack
+    ensures pack { hub_order_named words.now ≡ Some Pack
         → HubPacks K.Sink D.Disk (sink.old, disk.old) (sink.new, disk.new) result }
-    ensures undo { (count : ℕ) → order_named words.now ≡ Some (Undo count)
+    ensures undo { (count : ℕ) → hub_order_named words.now ≡ Some (Undo count)
         → HubUndoes count K.Sink D.Disk (sink.old, disk.old) (sink.new, disk.new) result }
-    ensures add { order_named words.now ≡ Some Add
-        → HubAdds S.Source K.Sink D.Disk (source.old, sink.old, disk.old) (source.new, sink.new, disk.new) result }
-    ensures usage { order_named words.now ≡ None → GivesUsage K.Sink sink.old sink.new result }
-    ensures statuses { MayEnd (order_named words.now) result }
-    ensures leaves { LeavesAlone (order_named words.now) (source.old, disk.old) (source.new, disk.new) }
-    ensures causes { IsCaused S.Source K.Sink D.Disk
-        (source.old, sink.old, disk.old) (source.new, sink.new, disk.new) result }
+    ensures add { hub_order_named words.now ≡ Some Add
+        → HubAdds S.Source K.Sink D.Disk (devices_of source.old sink.old disk.old)
+        (devices_of source.new sink.new disk.new) result }
+    ensures usage { hub_order_named words.now ≡ None → GivesHubUsage K.Sink sink.old sink.new result }
+    ensures statuses { HubMayEnd (hub_order_named words.now) result }
+    ensures leaves { HubLeavesAlone (hub_order_named words.now) (source.old, disk.old) (source.new, disk.new) }
+    ensures causes { FaultsAreCaused S.Source K.Sink D.Disk
+        (devices_of source.old sink.old disk.old) (devices_of source.new sink.new disk.new) result }
 {
     match read_order(words) {
         Some(order) => run_order(alloc, order, source, sink, disk),
@@ -79,10 +84,10 @@ fn run_order<S: Source, K: Sink, D: Disk>(
     disk: &mut D,
 ) -> Status
     ensures ends { EndsOrder S.Source K.Sink D.Disk
-        (source.old, sink.old, disk.old) (source.new, sink.new, disk.new) result order }
-    ensures statuses { MayEnd (Some order) result }
-    ensures unread { reads_source (Some order) ≡ false → source.new ≡ source.old }
-    ensures untouched { uses_disk (Some order) ≡ false → disk.new ≡ disk.old }
+        (devices_of source.old sink.old disk.old) (devices_of source.new sink.new disk.new) result order }
+    ensures statuses { HubMayEnd (Some order) result }
+    ensures unread { hub_reads_source (Some order) ≡ false → source.new ≡ source.old }
+    ensures untouched { hub_uses_disk (Some order) ≡ false → disk.new ≡ disk.old }
     ensures source_fault { result ≡ Status.SourceFault → SourceFailed S.Source source.old source.new }
     ensures sink_fault { result ≡ Status.SinkFault → SinkFailed K.Sink sink.old sink.new }
     ensures disk_fault { result ≡ Status.DiskFault → DiskFailed D.Disk disk.old disk.new }
@@ -100,8 +105,8 @@ fn run_order<S: Source, K: Sink, D: Disk>(
 
 // Writes the usage line.
 fn give_usage<K: Sink>(sink: &mut K) -> Status
-    ensures given { GivesUsage K.Sink sink.old sink.new result }
-    ensures statuses { MayEnd None result }
+    ensures given { GivesHubUsage K.Sink sink.old sink.new result }
+    ensures statuses { HubMayEnd None result }
     ensures sink_fault { result ≡ Status.SinkFault → SinkFailed K.Sink sink.old sink.new }
 {
     match give_all(sink, USAGE.as_bytes()) {

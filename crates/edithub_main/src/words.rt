@@ -1,6 +1,6 @@
 //! The words of the command line.
 ghost use Rattle.std.specs.Prelude.{◌≡◌, map, string_bytes};
-ghost use Rattle.edithub_main.specs.HubOrders.{only_reads, order_of, plain_order, undo_order};
+ghost use Rattle.edithub_main.specs.HubOrders.{hub_only_reads, hub_order_of, plain_hub_order, undo_hub_order};
 
 use command_words::read_count;
 
@@ -28,7 +28,7 @@ pub enum HubOrder {
 /// The words of a command are any name and one of `init`, `apply`, `show`, `verify`, `pack` and `add`, or any name,
 /// `undo` and K, a number of one to twenty ASCII digits from 1 to 10,000.
 pub fn read_order(words: &[String]) -> Option<HubOrder>
-    ensures { result ≡ order_of (map string_bytes words.now) }
+    ensures { result ≡ hub_order_of (map string_bytes words.now) }
 {
     match words.len() {
         2 => plain_order(words[1].as_str()),
@@ -39,14 +39,14 @@ pub fn read_order(words: &[String]) -> Option<HubOrder>
 
 /// Whether the words name a command that only reads the store: `show` or `verify`.
 pub fn only_reads(words: &[String]) -> bool
-    ensures { result ≡ only_reads (order_of (map string_bytes words.now)) }
+    ensures { result ≡ hub_only_reads (hub_order_of (map string_bytes words.now)) }
 {
     matches!(read_order(words), Some(HubOrder::Show | HubOrder::Verify))
 }
 
 // The command that is written as this one word.
 fn plain_order(word: &str) -> Option<HubOrder>
-    ensures { result ≡ plain_order word.now }
+    ensures { result ≡ plain_hub_order word.now }
 {
     match word {
         "init" => Some(HubOrder::Init),
@@ -61,7 +61,7 @@ fn plain_order(word: &str) -> Option<HubOrder>
 
 // The command `undo` with this number.
 fn undo_order(word: &str, count: &str) -> Option<HubOrder>
-    ensures { result ≡ undo_order word.now count.now }
+    ensures { result ≡ undo_hub_order word.now count.now }
 {
     if word != "undo" {
         return None;

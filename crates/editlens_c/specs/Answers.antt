@@ -1,5 +1,5 @@
 -- What an answer says: a status with its numbers, and the length of the text. Read it from the end: `IsWritten`,
--- `part_of`, `IsAnswer`.
+-- `part_of`, `IsNotOpen`, `IsAnswer`.
 use Rattle.std.specs.Prelude.{◌≡◌, ◌<◌, ◌==◌, ℕ, List, ◌++◌, length, drop, Bool, true, false, Option, None, Some}
 use Rattle.std.specs.Prelude.{if◌then◌else◌}
 use Rattle.kept_sessions.specs.Kept.{text_of}
@@ -49,6 +49,25 @@ pub record IsAnswer (status : ℕ) (reason : Reason) (k : Kept) (answer : Answer
   pub at_is : answer.at ≡ reason.at
   pub number_is : answer.number ≡ number_of k
   pub len_is : answer.len ≡ length (text_of k)
+  pub size_is : answer.size ≡ code.ANSWER_SIZE
+  pub spare_1_is : answer.spare_1 ≡ 0
+  pub spare_2_is : answer.spare_2 ≡ 0
+
+-- nothing is open, and nothing else is said
+pub record IsNotOpen (answer : Answer) : Type 0 where
+  pub status_is : answer.status ≡ code.NOT_OPEN
+  pub cause_is : answer.cause ≡ code.NO_CAUSE
+  pub part_is : answer.part ≡ 0
+  pub at_is : answer.at ≡ 0
+  pub number_is : answer.number ≡ 0
+  pub len_is : answer.len ≡ 0
+  pub size_is : answer.size ≡ code.ANSWER_SIZE
+  pub spare_1_is : answer.spare_1 ≡ 0
+  pub spare_2_is : answer.spare_2 ≡ 0
+
+-- the same, and the buffer is as it was
+abbrev pub IsUntouched : Answer → List ℕ → List ℕ → Type 0
+IsUntouched answer old new = (new ≡ old) × IsNotOpen answer
 
 -- the part of a state that has this number
 abbrev pub part_of : ℕ → Option Part

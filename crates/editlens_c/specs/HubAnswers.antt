@@ -97,6 +97,9 @@ pub record IsHubAnswer (status : ℕ) (reason : Reason) (k : KeptHub) (answer : 
   pub at_is : answer.at ≡ reason.at
   pub number_is : answer.number ≡ hub_number_of k
   pub len_is : answer.len ≡ length (text_of k)
+  pub size_is : answer.size ≡ code.ANSWER_SIZE
+  pub spare_1_is : answer.spare_1 ≡ 0
+  pub spare_2_is : answer.spare_2 ≡ 0
 
 -- the part of a state that has the first number, and of the view that has the second
 abbrev pub hub_part_of : ℕ → ℕ → Option HubPart

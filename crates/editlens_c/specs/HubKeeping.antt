@@ -2,52 +2,86 @@
 use Rattle.std.specs.Prelude.{◌≡◌, ℕ, List, Bool, Option, None, Some}
 use base.Fml.{Fml, ftrue, fsep, fex}
 use base.Fraction.{full_share}
-use denote.RawPtr.{Ptr, lies_at, room_at}
+use denote.RawPtr.{Ptr, block_ptr, null_ptr, lies_at}
 use Rattle.core.specs.Mem.{type_size}
+use Rattle.core.specs.Ptr.{if_non_null}
 use Rattle.kept_hubs.specs.Kept.{IsOpened, IsResumed, IsStepped, IsShown, text_of}
-use Rattle.kept_hubs.specs.contracts.kept.KeptHub.{the_row}
 use Rattle.kept_hubs.specs.declared.kept.KeptHub.{KeptHub}
 use Rattle.kept_hubs.specs.declared.outcome.HubOutcome.{HubOutcome}
 use Rattle.kept_hubs.specs.declared.outcome.HubPart.{HubPart}
-use Rattle.editlens_c.specs.Answers.{IsWritten}
+use Rattle.editlens_c.specs.Answers.{IsNotOpen, IsUntouched, IsWritten}
 use Rattle.editlens_c.specs.HubAnswers.{hub_closed_status, hub_status_of, hub_closed_reason, hub_reason_of}
 use Rattle.editlens_c.specs.HubAnswers.{IsHubAnswer, hub_part_of}
 use Rattle.editlens_c.specs.Keeping.{text_status}
+use Rattle.editlens_c.specs.HubSlots.{hub_held_in, IsHubEnded}
+use Rattle.editlens_c.specs.contracts.hub_slot.HubSlot.{the_row}
+use Rattle.editlens_c.specs.declared.hub_slot.HubSlot.{HubSlot}
 use Rattle.editlens_c.specs.Reasons.{no_place}
 use Rattle.editlens_c.specs.declared.answer.Answer.{Answer}
 use Rattle.editlens_c.specs.declared.codes.TheConstants as code
 
--- room for what is kept
-abbrev pub hub_room : Ptr → Fml
-hub_room at = room_at the_row at
+-- what lies at an address that is not null
+abbrev pub hub_slot_type : Type 0
+hub_slot_type = HubSlot
 
 -- how many bytes that is
-abbrev pub hub_room_size : ℕ
-hub_room_size = type_size the_row
+abbrev pub hub_slot_size : ℕ
+hub_slot_size = type_size the_row
 
--- this lies there
-abbrev pub keeps_hub : Ptr → KeptHub → Fml
-keeps_hub at kept = lies_at the_row full_share at kept
+-- this lies there, unless the address is null
+abbrev pub hub_slot_at : Ptr → HubSlot → Fml
+hub_slot_at at slot = if_non_null at (lies_at the_row full_share at slot)
 
--- something for which the fact holds lies there
-abbrev pub keeps_some_hub : Ptr → (KeptHub → Type 0) → Fml
-keeps_some_hub at Fact = fex KeptHub (λ kept. fsep (fex (Fact kept) (λ _. ftrue)) (keeps_hub at kept))
+-- something for which the first fact holds lies there; or the address is null, and the other holds
+abbrev pub some_hub_slot_at : Ptr → (HubSlot → Type 0) → Type 0 → Fml
+some_hub_slot_at (block_ptr b o) Fact AtNull =
+    fex HubSlot (λ s. fsep (fex (Fact s) (λ _. ftrue)) (lies_at the_row full_share (block_ptr b o) s))
+some_hub_slot_at null_ptr Fact AtNull = fex AtNull (λ _. ftrue)
 
--- what is there after a program part was opened
-abbrev pub keeps_hub_opened : Ptr → List ℕ → Fml
-keeps_hub_opened at part = keeps_some_hub at (IsOpened part)
+-- something is open for which the fact holds
+pub record HubOpen (Fact : KeptHub → Type 0) (slot : HubSlot) : Type 0 where
+  pub kept : KeptHub
+  pub is_open : hub_held_in slot ≡ Some kept
+  pub fact : Fact kept
 
--- what is there after a program part was opened to go on from the state of these texts
-abbrev pub keeps_hub_resumed : Ptr → List ℕ → List (List ℕ) → Fml
-keeps_hub_resumed at part texts = keeps_some_hub at (IsResumed part texts)
+-- what was opened, and the status that says whether it is a hub
+pub record HubOpened (Fact : KeptHub → Type 0) (status : ℕ) (slot : HubSlot) : Type 0 where
+  pub kept : KeptHub
+  pub is_open : hub_held_in slot ≡ Some kept
+  pub fact : Fact kept
+  pub status_is : status ≡ hub_closed_status kept
 
--- what is kept stays as it is, and the answer says what it is
-abbrev pub HubTells : KeptHub → Answer → KeptHub → Type 0
-HubTells before answer after =
-    (after ≡ before) × IsHubAnswer (hub_closed_status before) (hub_closed_reason before) before answer
+-- opened, where nothing was open; where something was, it stays as it is
+abbrev pub hub_opens : Option KeptHub → (KeptHub → Type 0) → HubSlot → ℕ → HubSlot → Type 0
+hub_opens None Fact before status after = HubOpened Fact status after
+hub_opens (Some kept) Fact before status after = (status ≡ code.NOT_OPEN) × (after ≡ before)
 
-abbrev pub keeps_hub_told : Ptr → KeptHub → Answer → Fml
-keeps_hub_told at before answer = keeps_some_hub at (HubTells before answer)
+-- a program part was opened
+abbrev pub HubOpens : HubSlot → List ℕ → ℕ → HubSlot → Type 0
+HubOpens before part status after = hub_opens (hub_held_in before) (IsOpened part) before status after
+
+abbrev pub hub_opened_at : Ptr → HubSlot → List ℕ → ℕ → Fml
+hub_opened_at at before part status = some_hub_slot_at at (HubOpens before part status) (status ≡ code.NOT_OPEN)
+
+-- a program part was opened to go on from the state of these texts
+abbrev pub HubResumes : HubSlot → List ℕ → List (List ℕ) → ℕ → HubSlot → Type 0
+HubResumes before part texts status after = hub_opens (hub_held_in before) (IsResumed part texts) before status after
+
+abbrev pub hub_resumed_at : Ptr → HubSlot → List ℕ → List (List ℕ) → ℕ → Fml
+hub_resumed_at at before part texts status =
+    some_hub_slot_at at (HubResumes before part texts status) (status ≡ code.NOT_OPEN)
+
+-- nothing changes, and the answer says what is open
+abbrev pub hub_told_by : Option KeptHub → HubSlot → Answer → HubSlot → Type 0
+hub_told_by (Some kept) before answer after =
+    (after ≡ before) × IsHubAnswer (hub_closed_status kept) (hub_closed_reason kept) kept answer
+hub_told_by None before answer after = (after ≡ before) × IsNotOpen answer
+
+abbrev pub HubTells : HubSlot → Answer → HubSlot → Type 0
+HubTells before answer after = hub_told_by (hub_held_in before) before answer after
+
+abbrev pub hub_told_at : Ptr → HubSlot → Answer → Fml
+hub_told_at at before answer = some_hub_slot_at at (HubTells before answer) (IsNotOpen answer)
 
 -- a step by a line that ends so
 pub record HubStepsTo (before : KeptHub) (line : List ℕ) (answer : Answer) (after : KeptHub) : Type 0 where
@@ -55,8 +89,16 @@ pub record HubStepsTo (before : KeptHub) (line : List ℕ) (answer : Answer) (af
   pub answer_is : IsHubAnswer (hub_status_of outcome after) (hub_reason_of outcome after) after answer
   pub stepped : IsStepped before line outcome after
 
-abbrev pub keeps_hub_stepped : Ptr → KeptHub → List ℕ → Answer → Fml
-keeps_hub_stepped at before line answer = keeps_some_hub at (HubStepsTo before line answer)
+-- the same for what is open
+abbrev pub hub_stepped_by : Option KeptHub → HubSlot → List ℕ → Answer → HubSlot → Type 0
+hub_stepped_by (Some kept) before line answer after = HubOpen (HubStepsTo kept line answer) after
+hub_stepped_by None before line answer after = (after ≡ before) × IsNotOpen answer
+
+abbrev pub HubSteps : HubSlot → List ℕ → Answer → HubSlot → Type 0
+HubSteps before line answer after = hub_stepped_by (hub_held_in before) before line answer after
+
+abbrev pub hub_stepped_at : Ptr → HubSlot → List ℕ → Answer → Fml
+hub_stepped_at at before line answer = some_hub_slot_at at (HubSteps before line answer) (IsNotOpen answer)
 
 -- a part that was asked for and shown, or not, as this outcome says
 pub record HubShowsPart (before : KeptHub) (part : HubPart) (answer : Answer) (after : KeptHub) : Type 0 where
@@ -73,8 +115,16 @@ hub_shows before None answer after =
 abbrev pub HubShowsTo : KeptHub → ℕ → ℕ → Answer → KeptHub → Type 0
 HubShowsTo before number view answer after = hub_shows before (hub_part_of number view) answer after
 
-abbrev pub keeps_hub_shown : Ptr → KeptHub → ℕ → ℕ → Answer → Fml
-keeps_hub_shown at before number view answer = keeps_some_hub at (HubShowsTo before number view answer)
+-- the same for what is open
+abbrev pub hub_shown_by : Option KeptHub → HubSlot → ℕ → ℕ → Answer → HubSlot → Type 0
+hub_shown_by (Some kept) before number view answer after = HubOpen (HubShowsTo kept number view answer) after
+hub_shown_by None before number view answer after = (after ≡ before) × IsNotOpen answer
+
+abbrev pub HubShows : HubSlot → ℕ → ℕ → Answer → HubSlot → Type 0
+HubShows before number view answer after = hub_shown_by (hub_held_in before) before number view answer after
+
+abbrev pub hub_shown_at : Ptr → HubSlot → ℕ → ℕ → Answer → Fml
+hub_shown_at at before number view answer = some_hub_slot_at at (HubShows before number view answer) (IsNotOpen answer)
 
 -- the text was written to the buffer if there was room, and the status says which
 pub record HubWritesTo (kept : KeptHub) (answer : Answer) (old new : List ℕ) : Type 0 where
@@ -83,8 +133,24 @@ pub record HubWritesTo (kept : KeptHub) (answer : Answer) (old new : List ℕ) :
   pub answer_is : IsHubAnswer (text_status fitted) (no_place code.NO_CAUSE) kept answer
 
 -- what is kept stays as it is, and its text is written
-abbrev pub HubWrites : KeptHub → Answer → List ℕ → List ℕ → KeptHub → Type 0
-HubWrites before answer old new after = (after ≡ before) × HubWritesTo before answer old new
+abbrev pub HubWritesKept : KeptHub → Answer → List ℕ → List ℕ → KeptHub → Type 0
+HubWritesKept before answer old new after = (after ≡ before) × HubWritesTo before answer old new
 
-abbrev pub keeps_hub_written : Ptr → KeptHub → Answer → List ℕ → List ℕ → Fml
-keeps_hub_written at before answer old new = keeps_some_hub at (HubWrites before answer old new)
+-- the same for what is open; or the buffer stays as it is, too
+abbrev pub hub_written_by : Option KeptHub → HubSlot → Answer → List ℕ → List ℕ → HubSlot → Type 0
+hub_written_by (Some kept) before answer old new after = HubOpen (HubWritesKept kept answer old new) after
+hub_written_by None before answer old new after = (after ≡ before) × IsUntouched answer old new
+
+abbrev pub HubWrites : HubSlot → Answer → List ℕ → List ℕ → HubSlot → Type 0
+HubWrites before answer old new after = hub_written_by (hub_held_in before) before answer old new after
+
+abbrev pub hub_written_at : Ptr → HubSlot → Answer → List ℕ → List ℕ → Fml
+hub_written_at at before answer old new =
+    some_hub_slot_at at (HubWrites before answer old new) (IsUntouched answer old new)
+
+-- what was open is no more
+abbrev pub HubEnds : HubSlot → ℕ → HubSlot → Type 0
+HubEnds before status after = IsHubEnded before status after
+
+abbrev pub hub_ended_at : Ptr → HubSlot → ℕ → Fml
+hub_ended_at at before status = some_hub_slot_at at (HubEnds before status) (status ≡ code.NOT_OPEN)

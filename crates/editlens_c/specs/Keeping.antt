@@ -2,58 +2,112 @@
 use Rattle.std.specs.Prelude.{◌≡◌, ℕ, List, Bool, true, false, Option, None, Some}
 use base.Fml.{Fml, ftrue, fsep, fex}
 use base.Fraction.{full_share}
-use denote.RawPtr.{Ptr, lies_at, room_at}
+use denote.RawPtr.{Ptr, block_ptr, null_ptr, lies_at}
 use Rattle.core.specs.Mem.{type_size}
+use Rattle.core.specs.Ptr.{if_non_null}
 use Rattle.edit_journal.specs.Pieces.{texts_of}
 use Rattle.texts.specs.declared.side.Side.{Side}
+use Rattle.texts.specs.declared.side.Side.TheVariants.{Left, Right}
 use Rattle.kept_sessions.specs.Kept.{IsOpened, IsImported, IsResumed, IsReopened, IsStepped, IsShown, text_of}
-use Rattle.kept_sessions.specs.contracts.kept.Kept.{the_row}
 use Rattle.kept_sessions.specs.declared.kept.Kept.{Kept}
 use Rattle.kept_sessions.specs.declared.outcome.Outcome.{Outcome}
 use Rattle.kept_sessions.specs.declared.outcome.Part.{Part}
-use Rattle.editlens_c.specs.Answers.{closed_status, status_of, IsAnswer, part_of, IsWritten}
+use Rattle.editlens_c.specs.Answers.{closed_status, status_of, IsAnswer, IsNotOpen, IsUntouched, part_of, IsWritten}
+use Rattle.editlens_c.specs.Slots.{held_in, IsEnded}
+use Rattle.editlens_c.specs.contracts.slot.Slot.{the_row}
+use Rattle.editlens_c.specs.declared.slot.Slot.{Slot}
 use Rattle.editlens_c.specs.Reasons.{no_place, closed_reason, reason_of}
 use Rattle.editlens_c.specs.declared.answer.Answer.{Answer}
 use Rattle.editlens_c.specs.declared.codes.TheConstants as code
 
--- room for what is kept
-abbrev pub room : Ptr → Fml
-room at = room_at the_row at
+-- what lies at an address that is not null
+abbrev pub slot_type : Type 0
+slot_type = Slot
 
 -- how many bytes that is
-abbrev pub room_size : ℕ
-room_size = type_size the_row
+abbrev pub slot_size : ℕ
+slot_size = type_size the_row
 
--- this lies there
-abbrev pub keeps : Ptr → Kept → Fml
-keeps at kept = lies_at the_row full_share at kept
+-- this lies there, unless the address is null
+abbrev pub slot_at : Ptr → Slot → Fml
+slot_at at slot = if_non_null at (lies_at the_row full_share at slot)
 
--- something for which the fact holds lies there
-abbrev pub keeps_some : Ptr → (Kept → Type 0) → Fml
-keeps_some at Fact = fex Kept (λ kept. fsep (fex (Fact kept) (λ _. ftrue)) (keeps at kept))
+-- something for which the first fact holds lies there; or the address is null, and the other holds
+abbrev pub some_slot_at : Ptr → (Slot → Type 0) → Type 0 → Fml
+some_slot_at (block_ptr b o) Fact AtNull =
+    fex Slot (λ s. fsep (fex (Fact s) (λ _. ftrue)) (lies_at the_row full_share (block_ptr b o) s))
+some_slot_at null_ptr Fact AtNull = fex AtNull (λ _. ftrue)
 
--- what is there after a program was opened
-abbrev pub keeps_opened : Ptr → List ℕ → Fml
-keeps_opened at program = keeps_some at (IsOpened program)
+-- something is open for which the fact holds
+pub record Open (Fact : Kept → Type 0) (slot : Slot) : Type 0 where
+  pub kept : Kept
+  pub is_open : held_in slot ≡ Some kept
+  pub fact : Fact kept
 
--- what is there after a program was opened with this document of a side
-abbrev pub keeps_imported : Ptr → List ℕ → Side → List ℕ → Fml
-keeps_imported at program side document = keeps_some at (IsImported program side document)
+-- what was opened, and the status that says whether it is a session
+pub record Opened (Fact : Kept → Type 0) (status : ℕ) (slot : Slot) : Type 0 where
+  pub kept : Kept
+  pub is_open : held_in slot ≡ Some kept
+  pub fact : Fact kept
+  pub status_is : status ≡ closed_status kept
 
--- what is there after a program was opened to go on from a state
-abbrev pub keeps_resumed : Ptr → List ℕ → List ℕ → List ℕ → List ℕ → Fml
-keeps_resumed at program left complement right = keeps_some at (IsResumed program left complement right)
+-- opened, where nothing was open; where something was, it stays as it is
+abbrev pub opens : Option Kept → (Kept → Type 0) → Slot → ℕ → Slot → Type 0
+opens None Fact before status after = Opened Fact status after
+opens (Some kept) Fact before status after = (status ≡ code.NOT_OPEN) × (after ≡ before)
 
--- what is there after the records of a log were opened, each of which an LF ends
-abbrev pub keeps_reopened : Ptr → List ℕ → Fml
-keeps_reopened at records = keeps_some at (IsReopened (texts_of records))
+-- a program was opened
+abbrev pub Opens : Slot → List ℕ → ℕ → Slot → Type 0
+Opens before program status after = opens (held_in before) (IsOpened program) before status after
 
--- what is kept stays as it is, and the answer says what it is
-abbrev pub Tells : Kept → Answer → Kept → Type 0
-Tells before answer after = (after ≡ before) × IsAnswer (closed_status before) (closed_reason before) before answer
+abbrev pub opened_at : Ptr → Slot → List ℕ → ℕ → Fml
+opened_at at before program status = some_slot_at at (Opens before program status) (status ≡ code.NOT_OPEN)
 
-abbrev pub keeps_told : Ptr → Kept → Answer → Fml
-keeps_told at before answer = keeps_some at (Tells before answer)
+-- a program was opened with this left document
+abbrev pub ImportsLeft : Slot → List ℕ → List ℕ → ℕ → Slot → Type 0
+ImportsLeft before program document status after =
+    opens (held_in before) (IsImported program Left document) before status after
+
+abbrev pub imported_left_at : Ptr → Slot → List ℕ → List ℕ → ℕ → Fml
+imported_left_at at before program document status =
+    some_slot_at at (ImportsLeft before program document status) (status ≡ code.NOT_OPEN)
+
+-- a program was opened with this right document
+abbrev pub ImportsRight : Slot → List ℕ → List ℕ → ℕ → Slot → Type 0
+ImportsRight before program document status after =
+    opens (held_in before) (IsImported program Right document) before status after
+
+abbrev pub imported_right_at : Ptr → Slot → List ℕ → List ℕ → ℕ → Fml
+imported_right_at at before program document status =
+    some_slot_at at (ImportsRight before program document status) (status ≡ code.NOT_OPEN)
+
+-- a program was opened to go on from a state
+abbrev pub Resumes : Slot → List ℕ → List ℕ → List ℕ → List ℕ → ℕ → Slot → Type 0
+Resumes before program left complement right status after =
+    opens (held_in before) (IsResumed program left complement right) before status after
+
+abbrev pub resumed_at : Ptr → Slot → List ℕ → List ℕ → List ℕ → List ℕ → ℕ → Fml
+resumed_at at before program left complement right status =
+    some_slot_at at (Resumes before program left complement right status) (status ≡ code.NOT_OPEN)
+
+-- the records of a log were opened, each of which an LF ends
+abbrev pub Reopens : Slot → List ℕ → ℕ → Slot → Type 0
+Reopens before records status after = opens (held_in before) (IsReopened (texts_of records)) before status after
+
+abbrev pub reopened_at : Ptr → Slot → List ℕ → ℕ → Fml
+reopened_at at before records status = some_slot_at at (Reopens before records status) (status ≡ code.NOT_OPEN)
+
+-- nothing changes, and the answer says what is open
+abbrev pub told_by : Option Kept → Slot → Answer → Slot → Type 0
+told_by (Some kept) before answer after =
+    (after ≡ before) × IsAnswer (closed_status kept) (closed_reason kept) kept answer
+told_by None before answer after = (after ≡ before) × IsNotOpen answer
+
+abbrev pub Tells : Slot → Answer → Slot → Type 0
+Tells before answer after = told_by (held_in before) before answer after
+
+abbrev pub told_at : Ptr → Slot → Answer → Fml
+told_at at before answer = some_slot_at at (Tells before answer) (IsNotOpen answer)
 
 -- a step by a line that ends so
 pub record StepsTo (before : Kept) (line : List ℕ) (answer : Answer) (after : Kept) : Type 0 where
@@ -61,8 +115,16 @@ pub record StepsTo (before : Kept) (line : List ℕ) (answer : Answer) (after : 
   pub answer_is : IsAnswer (status_of outcome after) (reason_of outcome after) after answer
   pub stepped : IsStepped before line outcome after
 
-abbrev pub keeps_stepped : Ptr → Kept → List ℕ → Answer → Fml
-keeps_stepped at before line answer = keeps_some at (StepsTo before line answer)
+-- the same for what is open
+abbrev pub stepped_by : Option Kept → Slot → List ℕ → Answer → Slot → Type 0
+stepped_by (Some kept) before line answer after = Open (StepsTo kept line answer) after
+stepped_by None before line answer after = (after ≡ before) × IsNotOpen answer
+
+abbrev pub Steps : Slot → List ℕ → Answer → Slot → Type 0
+Steps before line answer after = stepped_by (held_in before) before line answer after
+
+abbrev pub stepped_at : Ptr → Slot → List ℕ → Answer → Fml
+stepped_at at before line answer = some_slot_at at (Steps before line answer) (IsNotOpen answer)
 
 -- a part that was asked for and shown, or not, as this outcome says
 pub record ShowsPart (before : Kept) (part : Part) (answer : Answer) (after : Kept) : Type 0 where
@@ -78,8 +140,16 @@ shows before None answer after = (after ≡ before) × IsAnswer code.UNKNOWN_PAR
 abbrev pub ShowsTo : Kept → ℕ → Answer → Kept → Type 0
 ShowsTo before number answer after = shows before (part_of number) answer after
 
-abbrev pub keeps_shown : Ptr → Kept → ℕ → Answer → Fml
-keeps_shown at before number answer = keeps_some at (ShowsTo before number answer)
+-- the same for what is open
+abbrev pub shown_by : Option Kept → Slot → ℕ → Answer → Slot → Type 0
+shown_by (Some kept) before number answer after = Open (ShowsTo kept number answer) after
+shown_by None before number answer after = (after ≡ before) × IsNotOpen answer
+
+abbrev pub Shows : Slot → ℕ → Answer → Slot → Type 0
+Shows before number answer after = shown_by (held_in before) before number answer after
+
+abbrev pub shown_at : Ptr → Slot → ℕ → Answer → Fml
+shown_at at before number answer = some_slot_at at (Shows before number answer) (IsNotOpen answer)
 
 abbrev pub text_status : Bool → ℕ
 text_status true = code.DONE
@@ -92,8 +162,23 @@ pub record WritesTo (kept : Kept) (answer : Answer) (old new : List ℕ) : Type 
   pub answer_is : IsAnswer (text_status fitted) (no_place code.NO_CAUSE) kept answer
 
 -- what is kept stays as it is, and its text is written
-abbrev pub Writes : Kept → Answer → List ℕ → List ℕ → Kept → Type 0
-Writes before answer old new after = (after ≡ before) × WritesTo before answer old new
+abbrev pub WritesKept : Kept → Answer → List ℕ → List ℕ → Kept → Type 0
+WritesKept before answer old new after = (after ≡ before) × WritesTo before answer old new
 
-abbrev pub keeps_written : Ptr → Kept → Answer → List ℕ → List ℕ → Fml
-keeps_written at before answer old new = keeps_some at (Writes before answer old new)
+-- the same for what is open; or the buffer stays as it is, too
+abbrev pub written_by : Option Kept → Slot → Answer → List ℕ → List ℕ → Slot → Type 0
+written_by (Some kept) before answer old new after = Open (WritesKept kept answer old new) after
+written_by None before answer old new after = (after ≡ before) × IsUntouched answer old new
+
+abbrev pub Writes : Slot → Answer → List ℕ → List ℕ → Slot → Type 0
+Writes before answer old new after = written_by (held_in before) before answer old new after
+
+abbrev pub written_at : Ptr → Slot → Answer → List ℕ → List ℕ → Fml
+written_at at before answer old new = some_slot_at at (Writes before answer old new) (IsUntouched answer old new)
+
+-- what was open is no more
+abbrev pub Ends : Slot → ℕ → Slot → Type 0
+Ends before status after = IsEnded before status after
+
+abbrev pub ended_at : Ptr → Slot → ℕ → Fml
+ended_at at before status = some_slot_at at (Ends before status) (status ≡ code.NOT_OPEN)

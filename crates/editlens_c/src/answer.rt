@@ -1,6 +1,7 @@
 //! What a call answers.
 ghost use Rattle.std.specs.Prelude.{◌≡◌};
-ghost use Rattle.editlens_c.specs.Answers.{IsAnswer, IsWritten, closed_status, status_of, part_of, number_of};
+ghost use Rattle.editlens_c.specs.Answers.{IsAnswer, IsNotOpen, IsUntouched, IsWritten};
+ghost use Rattle.editlens_c.specs.Answers.{closed_status, status_of, part_of, number_of};
 ghost use Rattle.editlens_c.specs.Reasons.{no_place, closed_reason, reason_of};
 
 use crate::codes::*;
@@ -24,6 +25,29 @@ pub struct Answer {
     pub at: u64,
     /// How many bytes the text has that answers the last call.
     pub len: usize,
+    /// How many bytes of the answer have a meaning: those up to this member, and this one.
+    pub size: u64,
+    /// Room for later members, which is 0.
+    pub spare_1: u64,
+    /// The same.
+    pub spare_2: u64,
+}
+
+// The answer of a call that finds nothing open.
+pub(crate) fn not_open() -> Answer
+    ensures { IsNotOpen result }
+{
+    Answer {
+        status: NOT_OPEN,
+        cause: NO_CAUSE,
+        number: 0,
+        part: 0,
+        at: 0,
+        len: 0,
+        size: ANSWER_SIZE,
+        spare_1: 0,
+        spare_2: 0,
+    }
 }
 
 // The answer to a call that ended so.
@@ -52,6 +76,13 @@ pub(crate) fn plain_answer(status: u32, kept: &Kept) -> Answer
     answer_with(status, none, kept)
 }
 
+// The same, with a buffer that stays as it was.
+pub(crate) fn untouched(out: &mut [u8]) -> Answer
+    ensures { IsUntouched result out.old out.new }
+{
+    not_open()
+}
+
 fn answer_with(status: u32, reason: Reason, kept: &Kept) -> Answer
     ensures { IsAnswer status reason kept.now result }
 {
@@ -62,6 +93,9 @@ fn answer_with(status: u32, reason: Reason, kept: &Kept) -> Answer
         part: reason.part,
         at: reason.at,
         len: kept.text().len(),
+        size: ANSWER_SIZE,
+        spare_1: 0,
+        spare_2: 0,
     }
 }
 
@@ -81,7 +115,7 @@ fn status_of(outcome: Outcome, kept: &Kept) -> u32
 }
 
 // Why there is no session, or that there is one.
-fn closed_status(kept: &Kept) -> u32
+pub(crate) fn closed_status(kept: &Kept) -> u32
     ensures { result ≡ closed_status kept.now }
 {
     match kept {

@@ -27,6 +27,20 @@ pub const RECORDS_REFUSED: u32 = 11;
 /// The part is one of the last change, and the last line was not a change that was accepted. Nothing changed.
 pub const NO_CHANGE: u32 = 12;
 
+/// Nothing was done: the address is NULL, or nothing is open there; or, of a call that opens, something is open there
+/// already.
+pub const NOT_OPEN: u32 = 13;
+
+/// The number of this interface: it is raised where a caller has to be compiled anew.
+pub const VERSION: u32 = 2;
+/// How many bytes of an answer have a meaning. Those behind them are 0.
+pub const ANSWER_SIZE: u64 = 48;
+
+/// The word of magic of an open session.
+pub const SESSION_WORD: u64 = 0x6564_6974_7365_7373;
+/// The word of magic of an open hub.
+pub const HUB_WORD: u64 = 0x6564_6974_6875_6273;
+
 /// The three state lines.
 pub const STATE: u32 = 0;
 /// The left document.

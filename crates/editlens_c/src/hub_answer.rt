@@ -48,6 +48,9 @@ fn hub_answer_with(status: u32, reason: Reason, kept: &KeptHub) -> Answer
         part: reason.part,
         at: reason.at,
         len: kept.text().len(),
+        size: ANSWER_SIZE,
+        spare_1: 0,
+        spare_2: 0,
     }
 }
 
@@ -66,7 +69,7 @@ fn hub_status_of(outcome: HubOutcome, kept: &KeptHub) -> u32
 }
 
 // Why there is no hub, or that there is one.
-fn hub_closed_status(kept: &KeptHub) -> u32
+pub(crate) fn hub_closed_status(kept: &KeptHub) -> u32
     ensures { result ≡ hub_closed_status kept.now }
 {
     match kept {

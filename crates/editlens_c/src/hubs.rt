@@ -2,50 +2,65 @@
 
 ghost use Rattle.std.specs.Prelude.{◌≡◌};
 ghost use types.Logic.{sem};
+ghost use denote.RawPtr.{Testable};
 ghost use Rattle.edit_journal.specs.Pieces.{texts_of};
-ghost use Rattle.kept_hubs.specs.Kept.{IsOpened, IsResumed};
-ghost use Rattle.kept_hubs.specs.declared.kept.KeptHub.{KeptHub as kept_type};
-ghost use Rattle.editlens_c.specs.HubKeeping.{hub_room, hub_room_size, keeps_hub, keeps_hub_opened};
-ghost use Rattle.editlens_c.specs.HubKeeping.{keeps_hub_resumed, keeps_hub_told};
-ghost use Rattle.editlens_c.specs.HubKeeping.{keeps_hub_stepped, keeps_hub_shown, keeps_hub_written};
-ghost use Rattle.editlens_c.specs.HubKeeping.{HubTells, HubStepsTo, HubShowsTo, HubWrites};
+ghost use Rattle.editlens_c.specs.HubKeeping.{hub_slot_type, hub_slot_size, hub_slot_at, hub_opened_at, hub_resumed_at};
+ghost use Rattle.editlens_c.specs.HubKeeping.{hub_told_at, hub_stepped_at, hub_shown_at, hub_written_at, hub_ended_at};
+ghost use Rattle.editlens_c.specs.HubKeeping.{HubOpens, HubResumes, HubTells, HubSteps, HubStepsTo, HubShows};
+ghost use Rattle.editlens_c.specs.HubKeeping.{HubShowsTo, HubWrites, HubWritesKept, HubEnds};
 
-use crate::answer::{Answer, is_written};
-use crate::codes::{DONE, SMALL_BUFFER, UNKNOWN_PART};
-use crate::hub_answer::{hub_answer_to, hub_part_of, hub_plain_answer, hub_standing_of};
+use crate::answer::{Answer, is_written, not_open, untouched};
+use crate::codes::{DONE, NOT_OPEN, SMALL_BUFFER, UNKNOWN_PART};
+use crate::hub_answer::{
+    hub_answer_to, hub_closed_status, hub_part_of, hub_plain_answer, hub_standing_of,
+};
+use crate::hub_slot::HubSlot;
 use kept_hubs::KeptHub;
 use std::alloc::Global;
 
-/// How many bytes a hub takes. The caller's memory is aligned to 16 bytes.
+/// How many bytes a hub takes. The caller's memory is aligned to 16 bytes, and they are 0 before its first use.
 #[unsafe(no_mangle)]
 pub extern "C" fn editlens_hub_size() -> usize
-    ensures { result ≡ hub_room_size }
+    ensures { result ≡ hub_slot_size }
 {
-    size_of::<KeptHub>()
+    size_of::<HubSlot>()
 }
 
 /// Puts the hub over the programs of its views, or why there is none, into memory that has room for it.
 ///
 /// The programs are those of a script of the command `hub`: up to 64, with a line `+++` between them.
-/// `editlens_hub_status` says which. The text is the line of a refusal, or empty.
+/// What is returned says which, as `editlens_hub_status` does; or it is `NOT_OPEN`, and nothing was done. The text is
+/// the line of a refusal, or empty.
 ///
 /// # Safety
 ///
-/// The caller has `editlens_hub_size()` bytes at `at`, aligned to 16, where no hub is. They stay there until
-/// `editlens_hub_close`, which each hub wants once, also one that is refused. `programs` may be read during the call.
+/// `at` is NULL, or the caller has `editlens_hub_size()` bytes there, aligned to 16, which were 0 before the first call
+/// that was passed `at`, and which calls of this library alone have changed since. They stay there until
+/// `editlens_hub_close`, which each hub wants, also one that is refused. No other call uses `at` meanwhile, and
+/// what the call before it wrote is seen by this one. `programs` may be read during the call.
 #[unsafe(no_mangle)]
-pub unsafe extern "C" fn editlens_hub_open(alloc: Global, at: *mut u8, programs: &[u8])
-    requires* { sem 𝓛 (hub_room at) }
-    ensures* { sem 𝓛 (keeps_hub_opened at programs.now) }
+pub unsafe extern "C" fn editlens_hub_open(alloc: Global, at: *mut u8, programs: &[u8]) -> u32
+    ghost slot: { hub_slot_type }
+    requires testable { Testable at }
+    requires* memory { sem 𝓛 (hub_slot_at at slot) }
+    ensures* { sem 𝓛 (hub_opened_at at slot programs.now result) }
 {
-    let kept = opened(alloc, programs);
-    unsafe { std::ptr::write(at as *mut KeptHub, kept) };
+    if at.is_null() {
+        return NOT_OPEN;
+    }
+    opened(alloc, unsafe { &mut *(at as *mut HubSlot) }, programs)
 }
 
-fn opened(alloc: Global, programs: &[u8]) -> KeptHub
-    ensures { IsOpened programs.now result }
+fn opened(alloc: Global, slot: &mut HubSlot, programs: &[u8]) -> u32
+    ensures { HubOpens slot.old programs.now result slot.new }
 {
-    KeptHub::open(alloc, programs)
+    if slot.is_open() {
+        return NOT_OPEN;
+    }
+    let kept = KeptHub::open(alloc, programs);
+    let status = hub_closed_status(&kept);
+    slot.put(kept);
+    status
 }
 
 /// The same for a hub that goes on from a state: JSON texts, with an LF behind each. The first is that of the hub's
@@ -62,39 +77,63 @@ pub unsafe extern "C" fn editlens_hub_resume(
     at: *mut u8,
     programs: &[u8],
     state: &[u8],
-)
-    requires* { sem 𝓛 (hub_room at) }
-    ensures* { sem 𝓛 (keeps_hub_resumed at programs.now (texts_of state.now)) }
+) -> u32
+    ghost slot: { hub_slot_type }
+    requires testable { Testable at }
+    requires* memory { sem 𝓛 (hub_slot_at at slot) }
+    ensures* { sem 𝓛 (hub_resumed_at at slot programs.now (texts_of state.now) result) }
 {
-    let kept = resumed(alloc, programs, state);
-    unsafe { std::ptr::write(at as *mut KeptHub, kept) };
+    if at.is_null() {
+        return NOT_OPEN;
+    }
+    resumed(
+        alloc,
+        unsafe { &mut *(at as *mut HubSlot) },
+        programs,
+        state,
+    )
 }
 
-fn resumed(alloc: Global, programs: &[u8], state: &[u8]) -> KeptHub
-    ensures { IsResumed programs.now (texts_of state.now) result }
+fn resumed(alloc: Global, slot: &mut HubSlot, programs: &[u8], state: &[u8]) -> u32
+    ensures { HubResumes slot.old programs.now (texts_of state.now) result slot.new }
 {
-    KeptHub::resume(alloc, programs, state)
+    if slot.is_open() {
+        return NOT_OPEN;
+    }
+    let kept = KeptHub::resume(alloc, programs, state);
+    let status = hub_closed_status(&kept);
+    slot.put(kept);
+    status
 }
 
-/// Whether there is a hub, or why there is none. Nothing changes.
+/// Whether there is a hub, or why there is none: it was refused, or is not open. Nothing changes.
 ///
 /// # Safety
 ///
-/// A hub was put at `at` and is not closed; or why there is none was put there. It is the thread that put it there that
-/// calls, and no other call uses `at` meanwhile.
+/// `at` is as for `editlens_hub_open`.
 #[unsafe(no_mangle)]
 pub unsafe extern "C" fn editlens_hub_status(at: *mut u8) -> Answer
-    ghost kept: { kept_type }
-    requires* { sem 𝓛 (keeps_hub at kept) }
-    ensures* { sem 𝓛 (keeps_hub_told at kept result) }
+    ghost slot: { hub_slot_type }
+    requires testable { Testable at }
+    requires* memory { sem 𝓛 (hub_slot_at at slot) }
+    ensures* { sem 𝓛 (hub_told_at at slot result) }
 {
-    told(unsafe { &mut *(at as *mut KeptHub) })
+    if at.is_null() {
+        return not_open();
+    }
+    told(unsafe { &mut *(at as *mut HubSlot) })
 }
 
-fn told(kept: &mut KeptHub) -> Answer
-    ensures { HubTells kept.old result kept.new }
+fn told(slot: &mut HubSlot) -> Answer
+    ensures { HubTells slot.old result slot.new }
 {
-    hub_standing_of(kept)
+    if !slot.is_open() {
+        return not_open();
+    }
+    match &slot.kept {
+        Some(kept) => hub_standing_of(kept),
+        None => not_open(),
+    }
 }
 
 /// Gives a hub a line of its journal, without its LF. The text is then the answer line.
@@ -104,14 +143,30 @@ fn told(kept: &mut KeptHub) -> Answer
 /// As for `editlens_hub_status`; `line` may be read during the call.
 #[unsafe(no_mangle)]
 pub unsafe extern "C" fn editlens_hub_step(alloc: Global, at: *mut u8, line: &[u8]) -> Answer
-    ghost kept: { kept_type }
-    requires* { sem 𝓛 (keeps_hub at kept) }
-    ensures* { sem 𝓛 (keeps_hub_stepped at kept line.now result) }
+    ghost slot: { hub_slot_type }
+    requires testable { Testable at }
+    requires* memory { sem 𝓛 (hub_slot_at at slot) }
+    ensures* { sem 𝓛 (hub_stepped_at at slot line.now result) }
 {
-    stepped(alloc, unsafe { &mut *(at as *mut KeptHub) }, line)
+    if at.is_null() {
+        return not_open();
+    }
+    stepped(alloc, unsafe { &mut *(at as *mut HubSlot) }, line)
 }
 
-fn stepped(alloc: Global, kept: &mut KeptHub, line: &[u8]) -> Answer
+fn stepped(alloc: Global, slot: &mut HubSlot, line: &[u8]) -> Answer
+    ensures { HubSteps slot.old line.now result slot.new }
+{
+    if !slot.is_open() {
+        return not_open();
+    }
+    match &mut slot.kept {
+        Some(kept) => step_kept(alloc, kept, line),
+        None => not_open(),
+    }
+}
+
+fn step_kept(alloc: Global, kept: &mut KeptHub, line: &[u8]) -> Answer
     ensures { HubStepsTo kept.old line.now result kept.new }
 {
     let outcome = kept.step(alloc, line);
@@ -130,14 +185,30 @@ pub unsafe extern "C" fn editlens_hub_show(
     part: u32,
     view: u64,
 ) -> Answer
-    ghost kept: { kept_type }
-    requires* { sem 𝓛 (keeps_hub at kept) }
-    ensures* { sem 𝓛 (keeps_hub_shown at kept part view result) }
+    ghost slot: { hub_slot_type }
+    requires testable { Testable at }
+    requires* memory { sem 𝓛 (hub_slot_at at slot) }
+    ensures* { sem 𝓛 (hub_shown_at at slot part view result) }
 {
-    shown(alloc, unsafe { &mut *(at as *mut KeptHub) }, part, view)
+    if at.is_null() {
+        return not_open();
+    }
+    shown(alloc, unsafe { &mut *(at as *mut HubSlot) }, part, view)
 }
 
-fn shown(alloc: Global, kept: &mut KeptHub, part: u32, view: u64) -> Answer
+fn shown(alloc: Global, slot: &mut HubSlot, part: u32, view: u64) -> Answer
+    ensures { HubShows slot.old part view result slot.new }
+{
+    if !slot.is_open() {
+        return not_open();
+    }
+    match &mut slot.kept {
+        Some(kept) => show_kept(alloc, kept, part, view),
+        None => not_open(),
+    }
+}
+
+fn show_kept(alloc: Global, kept: &mut KeptHub, part: u32, view: u64) -> Answer
     ensures { HubShowsTo kept.old part view result kept.new }
 {
     match hub_part_of(part, view) {
@@ -157,15 +228,31 @@ fn shown(alloc: Global, kept: &mut KeptHub, part: u32, view: u64) -> Answer
 /// As for `editlens_hub_status`; `out` may be written during the call.
 #[unsafe(no_mangle)]
 pub unsafe extern "C" fn editlens_hub_text(at: *mut u8, out: &mut [u8]) -> Answer
-    ghost kept: { kept_type }
-    requires* { sem 𝓛 (keeps_hub at kept) }
-    ensures* { sem 𝓛 (keeps_hub_written at kept result out.old out.new) }
+    ghost slot: { hub_slot_type }
+    requires testable { Testable at }
+    requires* memory { sem 𝓛 (hub_slot_at at slot) }
+    ensures* { sem 𝓛 (hub_written_at at slot result out.old out.new) }
 {
-    texted(unsafe { &mut *(at as *mut KeptHub) }, { out })
+    if at.is_null() {
+        return untouched({ out });
+    }
+    texted(unsafe { &mut *(at as *mut HubSlot) }, { out })
 }
 
-fn texted(kept: &mut KeptHub, out: &mut [u8]) -> Answer
-    ensures { HubWrites kept.old result out.old out.new kept.new }
+fn texted(slot: &mut HubSlot, out: &mut [u8]) -> Answer
+    ensures { HubWrites slot.old result out.old out.new slot.new }
+{
+    if !slot.is_open() {
+        return untouched({ out });
+    }
+    match &mut slot.kept {
+        Some(kept) => text_kept(kept, { out }),
+        None => untouched({ out }),
+    }
+}
+
+fn text_kept(kept: &mut KeptHub, out: &mut [u8]) -> Answer
+    ensures { HubWritesKept kept.old result out.old out.new kept.new }
 {
     if is_written(kept.text(), out) {
         hub_plain_answer(DONE, kept)
@@ -178,14 +265,22 @@ fn texted(kept: &mut KeptHub, out: &mut [u8]) -> Answer
 ///
 /// # Safety
 ///
-/// As for `editlens_hub_status`. Nothing is at `at` afterwards, so a hub is closed once.
+/// As for `editlens_hub_status`. The memory is the caller's again, and nothing is open there.
 #[unsafe(no_mangle)]
-pub unsafe extern "C" fn editlens_hub_close(at: *mut u8)
-    ghost kept: { kept_type }
-    requires* { sem 𝓛 (keeps_hub at kept) }
-    ensures* { sem 𝓛 (hub_room at) }
+pub unsafe extern "C" fn editlens_hub_close(at: *mut u8) -> u32
+    ghost slot: { hub_slot_type }
+    requires testable { Testable at }
+    requires* memory { sem 𝓛 (hub_slot_at at slot) }
+    ensures* { sem 𝓛 (hub_ended_at at slot result) }
 {
-    closed(unsafe { std::ptr::read(at as *mut KeptHub) })
+    if at.is_null() {
+        return NOT_OPEN;
+    }
+    ended(unsafe { &mut *(at as *mut HubSlot) })
 }
 
-fn closed(_kept: KeptHub) {}
+fn ended(slot: &mut HubSlot) -> u32
+    ensures { HubEnds slot.old result slot.new }
+{
+    slot.end()
+}

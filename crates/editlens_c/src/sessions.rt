@@ -1,50 +1,65 @@
-//! A session that a caller keeps, by a pointer to memory of its own that has room for it.
+//! A session that a caller keeps, by a pointer to memory of its own that has room for it, or by NULL.
 ghost use Rattle.std.specs.Prelude.{◌≡◌};
 ghost use types.Logic.{sem};
-ghost use Rattle.edit_journal.specs.Pieces.{texts_of};
-ghost use Rattle.kept_sessions.specs.Kept.{IsOpened, IsImported, IsResumed, IsReopened};
-ghost use Rattle.kept_sessions.specs.declared.kept.Kept.{Kept as kept_type};
-ghost use Rattle.texts.specs.declared.side.Side.TheVariants.{Left, Right};
-ghost use Rattle.editlens_c.specs.Keeping.{keeps, keeps_opened, keeps_imported, keeps_resumed, keeps_reopened};
-ghost use Rattle.editlens_c.specs.Keeping.{keeps_told, keeps_stepped, keeps_shown, keeps_written, room, room_size};
-ghost use Rattle.editlens_c.specs.Keeping.{Tells, StepsTo, ShowsTo, Writes};
+ghost use denote.RawPtr.{Testable};
+ghost use Rattle.editlens_c.specs.Keeping.{slot_type, slot_size, slot_at, opened_at, imported_left_at};
+ghost use Rattle.editlens_c.specs.Keeping.{imported_right_at, resumed_at, reopened_at, told_at, stepped_at, shown_at};
+ghost use Rattle.editlens_c.specs.Keeping.{written_at, ended_at};
+ghost use Rattle.editlens_c.specs.Keeping.{Opens, ImportsLeft, ImportsRight, Resumes, Reopens, Tells, Steps, StepsTo};
+ghost use Rattle.editlens_c.specs.Keeping.{Shows, ShowsTo, Writes, WritesKept, Ends};
 
-use crate::answer::{Answer, answer_to, is_written, part_of, plain_answer, standing_of};
-use crate::codes::{DONE, SMALL_BUFFER, UNKNOWN_PART};
+use crate::answer::{
+    Answer, answer_to, closed_status, is_written, not_open, part_of, plain_answer, standing_of,
+    untouched,
+};
+use crate::codes::{DONE, NOT_OPEN, SMALL_BUFFER, UNKNOWN_PART};
+use crate::slot::Slot;
 use kept_sessions::Kept;
 use std::alloc::Global;
 use texts::Side;
 
-/// How many bytes a session takes. The caller's memory is aligned to 16 bytes.
+/// How many bytes a session takes. The caller's memory is aligned to 16 bytes, and they are 0 before its first use.
 #[unsafe(no_mangle)]
 pub extern "C" fn editlens_session_size() -> usize
-    ensures { result ≡ room_size }
+    ensures { result ≡ slot_size }
 {
-    size_of::<Kept>()
+    size_of::<Slot>()
 }
 
 /// Puts the session over a program, or why there is none, into memory that has room for it.
 ///
-/// `editlens_session_status` says which. The text is the payload of the first record of a log.
+/// What is returned says which, as `editlens_session_status` does; or it is `NOT_OPEN`, and nothing was done. The text
+/// is the payload of the first record of a log.
 ///
 /// # Safety
 ///
-/// The caller has `editlens_session_size()` bytes at `at`, aligned to 16, where no session is. They stay there until
-/// `editlens_session_close`, which each session wants once, also one that is refused. `program` may be read during the
-/// call.
+/// `at` is NULL, or the caller has `editlens_session_size()` bytes there, aligned to 16, which were 0 before the first
+/// call that was passed `at`, and which calls of this library alone have changed since. They stay there until
+/// `editlens_session_close`, which each session wants, also one that is refused. No other call uses `at` meanwhile, and
+/// what the call before it wrote is seen by this one. `program` may be read during the call.
 #[unsafe(no_mangle)]
-pub unsafe extern "C" fn editlens_session_open(alloc: Global, at: *mut u8, program: &[u8])
-    requires* { sem 𝓛 (room at) }
-    ensures* { sem 𝓛 (keeps_opened at program.now) }
+pub unsafe extern "C" fn editlens_session_open(alloc: Global, at: *mut u8, program: &[u8]) -> u32
+    ghost slot: { slot_type }
+    requires testable { Testable at }
+    requires* memory { sem 𝓛 (slot_at at slot) }
+    ensures* { sem 𝓛 (opened_at at slot program.now result) }
 {
-    let kept = opened(alloc, program);
-    unsafe { std::ptr::write(at as *mut Kept, kept) };
+    if at.is_null() {
+        return NOT_OPEN;
+    }
+    opened(alloc, unsafe { &mut *(at as *mut Slot) }, program)
 }
 
-fn opened(alloc: Global, program: &[u8]) -> Kept
-    ensures { IsOpened program.now result }
+fn opened(alloc: Global, slot: &mut Slot, program: &[u8]) -> u32
+    ensures { Opens slot.old program.now result slot.new }
 {
-    Kept::open(alloc, program)
+    if slot.is_open() {
+        return NOT_OPEN;
+    }
+    let kept = Kept::open(alloc, program);
+    let status = closed_status(&kept);
+    slot.put(kept);
+    status
 }
 
 /// Puts the session over a program whose left document is given, or why there is none, into memory that has room for
@@ -62,18 +77,28 @@ pub unsafe extern "C" fn editlens_session_import_left(
     at: *mut u8,
     program: &[u8],
     document: &[u8],
-)
-    requires* { sem 𝓛 (room at) }
-    ensures* { sem 𝓛 (keeps_imported at program.now Left document.now) }
+) -> u32
+    ghost slot: { slot_type }
+    requires testable { Testable at }
+    requires* memory { sem 𝓛 (slot_at at slot) }
+    ensures* { sem 𝓛 (imported_left_at at slot program.now document.now result) }
 {
-    let kept = imported_left(alloc, program, document);
-    unsafe { std::ptr::write(at as *mut Kept, kept) };
+    if at.is_null() {
+        return NOT_OPEN;
+    }
+    imported_left(alloc, unsafe { &mut *(at as *mut Slot) }, program, document)
 }
 
-fn imported_left(alloc: Global, program: &[u8], document: &[u8]) -> Kept
-    ensures { IsImported program.now Left document.now result }
+fn imported_left(alloc: Global, slot: &mut Slot, program: &[u8], document: &[u8]) -> u32
+    ensures { ImportsLeft slot.old program.now document.now result slot.new }
 {
-    Kept::import(alloc, program, Side::Left, document)
+    if slot.is_open() {
+        return NOT_OPEN;
+    }
+    let kept = Kept::import(alloc, program, Side::Left, document);
+    let status = closed_status(&kept);
+    slot.put(kept);
+    status
 }
 
 /// The same, where the right document is given and the left one is made.
@@ -87,18 +112,28 @@ pub unsafe extern "C" fn editlens_session_import_right(
     at: *mut u8,
     program: &[u8],
     document: &[u8],
-)
-    requires* { sem 𝓛 (room at) }
-    ensures* { sem 𝓛 (keeps_imported at program.now Right document.now) }
+) -> u32
+    ghost slot: { slot_type }
+    requires testable { Testable at }
+    requires* memory { sem 𝓛 (slot_at at slot) }
+    ensures* { sem 𝓛 (imported_right_at at slot program.now document.now result) }
 {
-    let kept = imported_right(alloc, program, document);
-    unsafe { std::ptr::write(at as *mut Kept, kept) };
+    if at.is_null() {
+        return NOT_OPEN;
+    }
+    imported_right(alloc, unsafe { &mut *(at as *mut Slot) }, program, document)
 }
 
-fn imported_right(alloc: Global, program: &[u8], document: &[u8]) -> Kept
-    ensures { IsImported program.now Right document.now result }
+fn imported_right(alloc: Global, slot: &mut Slot, program: &[u8], document: &[u8]) -> u32
+    ensures { ImportsRight slot.old program.now document.now result slot.new }
 {
-    Kept::import(alloc, program, Side::Right, document)
+    if slot.is_open() {
+        return NOT_OPEN;
+    }
+    let kept = Kept::import(alloc, program, Side::Right, document);
+    let status = closed_status(&kept);
+    slot.put(kept);
+    status
 }
 
 /// Puts the session that goes on from a state, or why there is none, into memory that has room for it.
@@ -117,18 +152,42 @@ pub unsafe extern "C" fn editlens_session_resume(
     left: &[u8],
     complement: &[u8],
     right: &[u8],
-)
-    requires* { sem 𝓛 (room at) }
-    ensures* { sem 𝓛 (keeps_resumed at program.now left.now complement.now right.now) }
+) -> u32
+    ghost slot: { slot_type }
+    requires testable { Testable at }
+    requires* memory { sem 𝓛 (slot_at at slot) }
+    ensures* { sem 𝓛 (resumed_at at slot program.now left.now complement.now right.now result) }
 {
-    let kept = resumed(alloc, program, left, complement, right);
-    unsafe { std::ptr::write(at as *mut Kept, kept) };
+    if at.is_null() {
+        return NOT_OPEN;
+    }
+    resumed(
+        alloc,
+        unsafe { &mut *(at as *mut Slot) },
+        program,
+        left,
+        complement,
+        right,
+    )
 }
 
-fn resumed(alloc: Global, program: &[u8], left: &[u8], complement: &[u8], right: &[u8]) -> Kept
-    ensures { IsResumed program.now left.now complement.now right.now result }
+fn resumed(
+    alloc: Global,
+    slot: &mut Slot,
+    program: &[u8],
+    left: &[u8],
+    complement: &[u8],
+    right: &[u8],
+) -> u32
+    ensures { Resumes slot.old program.now left.now complement.now right.now result slot.new }
 {
-    Kept::resume(alloc, program, left, complement, right)
+    if slot.is_open() {
+        return NOT_OPEN;
+    }
+    let kept = Kept::resume(alloc, program, left, complement, right);
+    let status = closed_status(&kept);
+    slot.put(kept);
+    status
 }
 
 /// Puts the session for which the records of a log stand, or why there is none, into memory that has room for it.
@@ -139,39 +198,58 @@ fn resumed(alloc: Global, program: &[u8], left: &[u8], complement: &[u8], right:
 ///
 /// As for `editlens_session_open`; it is `records` that may be read.
 #[unsafe(no_mangle)]
-pub unsafe extern "C" fn editlens_session_reopen(alloc: Global, at: *mut u8, records: &[u8])
-    requires* { sem 𝓛 (room at) }
-    ensures* { sem 𝓛 (keeps_reopened at records.now) }
+pub unsafe extern "C" fn editlens_session_reopen(alloc: Global, at: *mut u8, records: &[u8]) -> u32
+    ghost slot: { slot_type }
+    requires testable { Testable at }
+    requires* memory { sem 𝓛 (slot_at at slot) }
+    ensures* { sem 𝓛 (reopened_at at slot records.now result) }
 {
-    let kept = reopened(alloc, records);
-    unsafe { std::ptr::write(at as *mut Kept, kept) };
+    if at.is_null() {
+        return NOT_OPEN;
+    }
+    reopened(alloc, unsafe { &mut *(at as *mut Slot) }, records)
 }
 
-fn reopened(alloc: Global, records: &[u8]) -> Kept
-    ensures { IsReopened (texts_of records.now) result }
+fn reopened(alloc: Global, slot: &mut Slot, records: &[u8]) -> u32
+    ensures { Reopens slot.old records.now result slot.new }
 {
-    Kept::reopen(alloc, records)
+    if slot.is_open() {
+        return NOT_OPEN;
+    }
+    let kept = Kept::reopen(alloc, records);
+    let status = closed_status(&kept);
+    slot.put(kept);
+    status
 }
 
-/// Whether there is a session, or why there is none. Nothing changes.
+/// Whether there is a session, or why there is none: it was refused, or is not open. Nothing changes.
 ///
 /// # Safety
 ///
-/// A session was put at `at` and is not closed; or why there is none was put there. It is the thread that put it there
-/// that calls, and no other call uses `at` meanwhile.
+/// `at` is as for `editlens_session_open`.
 #[unsafe(no_mangle)]
 pub unsafe extern "C" fn editlens_session_status(at: *mut u8) -> Answer
-    ghost kept: { kept_type }
-    requires* { sem 𝓛 (keeps at kept) }
-    ensures* { sem 𝓛 (keeps_told at kept result) }
+    ghost slot: { slot_type }
+    requires testable { Testable at }
+    requires* memory { sem 𝓛 (slot_at at slot) }
+    ensures* { sem 𝓛 (told_at at slot result) }
 {
-    told(unsafe { &mut *(at as *mut Kept) })
+    if at.is_null() {
+        return not_open();
+    }
+    told(unsafe { &mut *(at as *mut Slot) })
 }
 
-fn told(kept: &mut Kept) -> Answer
-    ensures { Tells kept.old result kept.new }
+fn told(slot: &mut Slot) -> Answer
+    ensures { Tells slot.old result slot.new }
 {
-    standing_of(kept)
+    if !slot.is_open() {
+        return not_open();
+    }
+    match &slot.kept {
+        Some(kept) => standing_of(kept),
+        None => not_open(),
+    }
 }
 
 /// Gives a session a line of a journal, without its LF. The text is then the answer line.
@@ -181,14 +259,30 @@ fn told(kept: &mut Kept) -> Answer
 /// As for `editlens_session_status`; `line` may be read during the call.
 #[unsafe(no_mangle)]
 pub unsafe extern "C" fn editlens_session_step(alloc: Global, at: *mut u8, line: &[u8]) -> Answer
-    ghost kept: { kept_type }
-    requires* { sem 𝓛 (keeps at kept) }
-    ensures* { sem 𝓛 (keeps_stepped at kept line.now result) }
+    ghost slot: { slot_type }
+    requires testable { Testable at }
+    requires* memory { sem 𝓛 (slot_at at slot) }
+    ensures* { sem 𝓛 (stepped_at at slot line.now result) }
 {
-    stepped(alloc, unsafe { &mut *(at as *mut Kept) }, line)
+    if at.is_null() {
+        return not_open();
+    }
+    stepped(alloc, unsafe { &mut *(at as *mut Slot) }, line)
 }
 
-fn stepped(alloc: Global, kept: &mut Kept, line: &[u8]) -> Answer
+fn stepped(alloc: Global, slot: &mut Slot, line: &[u8]) -> Answer
+    ensures { Steps slot.old line.now result slot.new }
+{
+    if !slot.is_open() {
+        return not_open();
+    }
+    match &mut slot.kept {
+        Some(kept) => step_kept(alloc, kept, line),
+        None => not_open(),
+    }
+}
+
+fn step_kept(alloc: Global, kept: &mut Kept, line: &[u8]) -> Answer
     ensures { StepsTo kept.old line.now result kept.new }
 {
     let outcome = kept.step(alloc, line);
@@ -202,14 +296,30 @@ fn stepped(alloc: Global, kept: &mut Kept, line: &[u8]) -> Answer
 /// As for `editlens_session_status`.
 #[unsafe(no_mangle)]
 pub unsafe extern "C" fn editlens_session_show(alloc: Global, at: *mut u8, part: u32) -> Answer
-    ghost kept: { kept_type }
-    requires* { sem 𝓛 (keeps at kept) }
-    ensures* { sem 𝓛 (keeps_shown at kept part result) }
+    ghost slot: { slot_type }
+    requires testable { Testable at }
+    requires* memory { sem 𝓛 (slot_at at slot) }
+    ensures* { sem 𝓛 (shown_at at slot part result) }
 {
-    shown(alloc, unsafe { &mut *(at as *mut Kept) }, part)
+    if at.is_null() {
+        return not_open();
+    }
+    shown(alloc, unsafe { &mut *(at as *mut Slot) }, part)
 }
 
-fn shown(alloc: Global, kept: &mut Kept, part: u32) -> Answer
+fn shown(alloc: Global, slot: &mut Slot, part: u32) -> Answer
+    ensures { Shows slot.old part result slot.new }
+{
+    if !slot.is_open() {
+        return not_open();
+    }
+    match &mut slot.kept {
+        Some(kept) => show_kept(alloc, kept, part),
+        None => not_open(),
+    }
+}
+
+fn show_kept(alloc: Global, kept: &mut Kept, part: u32) -> Answer
     ensures { ShowsTo kept.old part result kept.new }
 {
     match part_of(part) {
@@ -229,15 +339,31 @@ fn shown(alloc: Global, kept: &mut Kept, part: u32) -> Answer
 /// As for `editlens_session_status`; `out` may be written during the call.
 #[unsafe(no_mangle)]
 pub unsafe extern "C" fn editlens_session_text(at: *mut u8, out: &mut [u8]) -> Answer
-    ghost kept: { kept_type }
-    requires* { sem 𝓛 (keeps at kept) }
-    ensures* { sem 𝓛 (keeps_written at kept result out.old out.new) }
+    ghost slot: { slot_type }
+    requires testable { Testable at }
+    requires* memory { sem 𝓛 (slot_at at slot) }
+    ensures* { sem 𝓛 (written_at at slot result out.old out.new) }
 {
-    texted(unsafe { &mut *(at as *mut Kept) }, { out })
+    if at.is_null() {
+        return untouched({ out });
+    }
+    texted(unsafe { &mut *(at as *mut Slot) }, { out })
 }
 
-fn texted(kept: &mut Kept, out: &mut [u8]) -> Answer
-    ensures { Writes kept.old result out.old out.new kept.new }
+fn texted(slot: &mut Slot, out: &mut [u8]) -> Answer
+    ensures { Writes slot.old result out.old out.new slot.new }
+{
+    if !slot.is_open() {
+        return untouched({ out });
+    }
+    match &mut slot.kept {
+        Some(kept) => text_kept(kept, { out }),
+        None => untouched({ out }),
+    }
+}
+
+fn text_kept(kept: &mut Kept, out: &mut [u8]) -> Answer
+    ensures { WritesKept kept.old result out.old out.new kept.new }
 {
     if is_written(kept.text(), out) {
         plain_answer(DONE, kept)
@@ -250,14 +376,22 @@ fn texted(kept: &mut Kept, out: &mut [u8]) -> Answer
 ///
 /// # Safety
 ///
-/// As for `editlens_session_status`. Nothing is at `at` afterwards, so a session is closed once.
+/// As for `editlens_session_status`. The memory is the caller's again, and nothing is open there.
 #[unsafe(no_mangle)]
-pub unsafe extern "C" fn editlens_session_close(at: *mut u8)
-    ghost kept: { kept_type }
-    requires* { sem 𝓛 (keeps at kept) }
-    ensures* { sem 𝓛 (room at) }
+pub unsafe extern "C" fn editlens_session_close(at: *mut u8) -> u32
+    ghost slot: { slot_type }
+    requires testable { Testable at }
+    requires* memory { sem 𝓛 (slot_at at slot) }
+    ensures* { sem 𝓛 (ended_at at slot result) }
 {
-    closed(unsafe { std::ptr::read(at as *mut Kept) })
+    if at.is_null() {
+        return NOT_OPEN;
+    }
+    ended(unsafe { &mut *(at as *mut Slot) })
 }
 
-fn closed(_kept: Kept) {}
+fn ended(slot: &mut Slot) -> u32
+    ensures { Ends slot.old result slot.new }
+{
+    slot.end()
+}

@@ -18,7 +18,7 @@ use Rattle.editlens_main.specs.Generated.{summary_lines}
 use Rattle.edit_session.specs.Step.{TripleTree}
 use Rattle.edit_session.specs.Run.{carried, no_apply, no_entry}
 use Rattle.pair_answers.specs.Answers.{answer_line, state_lines}
-use Rattle.pair_answers.specs.ItemRuns.{first_of, run_of}
+use Rattle.pair_answers.specs.ItemRuns.{triple_at_first, run_of}
 
 -- `{a ~ b: id int}`
 abbrev ab : FormTree
@@ -31,7 +31,7 @@ both_at n = record { left = rec (more_docs (int (pos n)) no_docs); comp = rec_co
 run_of_three : run_of ab (Err not_an_edit
     ∷ Ok (one (Right, more_primitives (at (codes "b") (more_primitives (set (Number (pos 1))) no_primitives)) no_primitives))
     ∷ Ok (one (Left, more_primitives (at (codes "b") no_primitives) no_primitives)) ∷ [])
-    ≡ Some ((first_of ab, no_entry not_an_edit)
+    ≡ Some ((triple_at_first ab, no_entry not_an_edit)
     ∷ (both_at 1, carried Left (more_primitives (at (codes "a") (more_primitives (set (Number (pos 1))) no_primitives)) no_primitives))
     ∷ (both_at 1, no_apply 0 Place) ∷ [])
 run_of_three = refl
@@ -56,7 +56,7 @@ line_of_a_fault : answer_line 4 (no_entry not_an_edit) ≡ codes "refused 4 not-
 unfolding digits serde_json_on_literals
 line_of_a_fault = refl
 
-start_lines : state_lines ab (first_of ab) ≡ codes "left {\"a\":0}" ++ 10 ∷ codes "right {\"b\":0}" ++ 10 ∷ codes "complement {\"rec\":[null]}" ++ 10 ∷ []
+start_lines : state_lines ab (triple_at_first ab) ≡ codes "left {\"a\":0}" ++ 10 ∷ codes "right {\"b\":0}" ++ 10 ∷ codes "complement {\"rec\":[null]}" ++ 10 ∷ []
 unfolding digits serde_json_on_literals
 start_lines = refl
 

@@ -12,6 +12,7 @@ use Rattle.script_run.specs.ScriptEnds.{EveryRunStaysInStep}
 use Rattle.script_run.specs.declared.script_state.ScriptState as OfScript
 use Rattle.store_run.proofs.Moments.{leaves_same}
 use Rattle.store_run.proofs.Openings.{unwritten_none}
+use Rattle.store_run.specs.Devices.{Devices}
 use Rattle.store_run.specs.InTime.{EndsAtSource}
 use Rattle.store_run.specs.Refusals.{IsUnwritten}
 use Rattle.store_run.specs.declared.refusals.StoreRefusal.{StoreRefusal}
@@ -46,7 +47,7 @@ not_diskless o p e uses not = true≢false (sym (ap (λ x. uses_disk (Some x)) e
 pub not_none : (o : Order) (q : Option Order) → q ≡ Some o → q ≡ None → ⊥
 not_none o q named e = let never : Some o ≡ None = sym named ∙ e in cc
 
-module _ {S K D : Type 0} (source : OfSource.Ghosts S) (sink : OfSink.Ghosts K) (disk : OfDisk.Ghosts D) (old new : S × K × D) (status : Status) where
+module _ {S K D : Type 0} (source : OfSource.Ghosts S) (sink : OfSink.Ghosts K) (disk : OfDisk.Ghosts D) (old new : Devices S K D) (status : Status) where
   -- the order that the words give is the one that was read
   pub at_order : (o p : Order) (q : Option Order) → q ≡ Some o → EndsOrder source sink disk old new status o → q ≡ Some p → EndsOrder source sink disk old new status p
   at_order o p q named ends e = subst (EndsOrder source sink disk old new status) (same_Some o p (sym named ∙ e)) ends
@@ -80,31 +81,31 @@ never_at_source : EndsAtSource NoMemory → ⊥
 never_at_source (inl e) = cc
 never_at_source (inr e) = cc
 
-module _ {S K D : Type 0} (source : OfSource.Ghosts S) (sink : OfSink.Ghosts K) (disk : OfDisk.Ghosts D) (old : S × K × D) where
-  nothing_written : IsUnwritten disk old.2 old.2
-  nothing_written = unwritten_none disk old.2
+module _ {S K D : Type 0} (source : OfSource.Ghosts S) (sink : OfSink.Ghosts K) (disk : OfDisk.Ghosts D) (old : Devices S K D) where
+  nothing_written : IsUnwritten disk old.disk old.disk
+  nothing_written = unwritten_none disk old.disk
 
   never_finds : FindsLog source sink disk old old NoMemory
-  never_finds = by_bytes (disk.content old.2) _ (λ bytes some. (refl, nothing_written, inr (inr refl, refl)))
+  never_finds = by_bytes (disk.content old.disk) _ (λ bytes some. (refl, nothing_written, inr (inr refl, refl)))
 
   -- nothing was taken, and nothing was written
   never_ends : (command : Command) → Ends source sink disk command old old NoMemory
   never_ends command =
       inr (inl (record {
         bytes = [];
-        took = Consumes-nil (source.left old.0);
+        took = Consumes-nil (source.left old.source);
         at_most = omega arith;
         stops = tt;
         unwritten = nothing_written;
-        given = Appends-nil (sink.held old.1);
+        given = Appends-nil (sink.held old.sink);
       }))
 
   never_complete : (command : Command) → Completes source sink disk command old old NoMemory
   never_complete command =
-      λ empty. by_bytes (source.left old.0) _ (λ bytes few r f w. record { accepted = λ part room. tt; refused = λ refusal is. tt })
+      λ empty. by_bytes (source.left old.source) _ (λ bytes few r f w. record { accepted = λ part room. tt; refused = λ refusal is. tt })
 
-  never_at_once : RefusesAtOnce one_program source old.0 old.0 NoMemory
-  never_at_once = record { bytes = []; took = Consumes-nil (source.left old.0); only = λ e. cc; whole = λ has refusal is. tt }
+  never_at_once : RefusesAtOnce one_program source old.source old.source NoMemory
+  never_at_once = record { bytes = []; took = Consumes-nil (source.left old.source); only = λ e. cc; whole = λ has refusal is. tt }
 
   pub never_init : MakesStore source sink disk old old NoMemory
   never_init = record {
@@ -132,13 +133,13 @@ module _ {S K D : Type 0} (source : OfSource.Ghosts S) (sink : OfSink.Ghosts K) 
     of_store = λ s. record {
       continues = λ f. absurd (not_memory f);
       in_step = stays_in_step s.payloads s.state s.version s.stands;
-      in_time = record { bytes = []; took = Consumes-nil (source.left old.0); few = inl refl; given = []; gave = Appends-nil (sink.held old.1); first = inl refl; all = λ e. absurd (never_at_source e) };
-      stops = inr (nothing_written, refl, ((inr refl, Appends-nil (sink.held old.1)), λ e. cc));
+      in_time = record { bytes = []; took = Consumes-nil (source.left old.source); few = inl refl; given = []; gave = Appends-nil (sink.held old.sink); first = inl refl; all = λ e. absurd (never_at_source e) };
+      stops = inr (nothing_written, refl, ((inr refl, Appends-nil (sink.held old.sink)), λ e. cc));
       survives = inl (inr (refl, refl));
       caused = tt;
       completes = λ r f w many full. inr refl;
     };
-    refuses = λ other. ((nothing_written, inr ((inr refl, Appends-nil (sink.held old.1)), λ e. cc)), refl);
+    refuses = λ other. ((nothing_written, inr ((inr refl, Appends-nil (sink.held old.sink)), λ e. cc)), refl);
   }
 
 module _ {K D : Type 0} (sink : OfSink.Ghosts K) (disk : OfDisk.Ghosts D) (old : K × D) where

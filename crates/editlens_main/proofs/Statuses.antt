@@ -1,6 +1,6 @@
 -- What a command that may end by one of some statuses never ends with.
 use Rattle.command_ends.proofs.AmongStatuses.{each}
-use Rattle.command_ends.specs.Statuses.{IsAmong, apply_statuses, import_statuses, init_statuses, quiet_statuses, script_statuses}
+use Rattle.command_ends.specs.Statuses.{IsStatusAmong, apply_statuses, import_statuses, init_statuses, quiet_statuses, script_statuses}
 use Rattle.std.proofs.Common.{◌≡◌, inl, inr, Option, Some, None, false, refl}
 use Rattle.command_words.specs.declared.orders.Order.{Order}
 use Rattle.command_words.specs.declared.orders.Order.TheVariants as order
@@ -12,38 +12,38 @@ use Rattle.command_ends.specs.declared.status.Status.TheVariants.{Usage, SourceF
 abbrev Not : Status → Status → Type 0
 Not other status = status ≡ other → ⊥
 
-pub gen_reads_nothing : (status : Status) → IsAmong gen_statuses status → status ≡ SourceFault → ⊥
+pub gen_reads_nothing : (status : Status) → IsStatusAmong gen_statuses status → status ≡ SourceFault → ⊥
 gen_reads_nothing status among = each (Not SourceFault) gen_statuses status ((λ e. cc), ((λ e. cc), ((λ e. cc), tt))) among
 
-pub script_stores_nothing : (status : Status) → IsAmong script_statuses status → status ≡ DiskFault → ⊥
+pub script_stores_nothing : (status : Status) → IsStatusAmong script_statuses status → status ≡ DiskFault → ⊥
 script_stores_nothing status among = each (Not DiskFault) script_statuses status ((λ e. cc), ((λ e. cc), ((λ e. cc), ((λ e. cc), ((λ e. cc), ((λ e. cc), ((λ e. cc), tt))))))) among
 
-pub gen_stores_nothing : (status : Status) → IsAmong gen_statuses status → status ≡ DiskFault → ⊥
+pub gen_stores_nothing : (status : Status) → IsStatusAmong gen_statuses status → status ≡ DiskFault → ⊥
 gen_stores_nothing status among = each (Not DiskFault) gen_statuses status ((λ e. cc), ((λ e. cc), ((λ e. cc), tt))) among
 
 -- ---- for any words
 
-script_not_usage : (status : Status) → IsAmong script_statuses status → status ≡ Usage → ⊥
+script_not_usage : (status : Status) → IsStatusAmong script_statuses status → status ≡ Usage → ⊥
 script_not_usage status among =
     each (Not Usage) script_statuses status ((λ e. cc), ((λ e. cc), ((λ e. cc), ((λ e. cc), ((λ e. cc), ((λ e. cc), ((λ e. cc), tt))))))) among
 
-init_not_usage : (status : Status) → IsAmong init_statuses status → status ≡ Usage → ⊥
+init_not_usage : (status : Status) → IsStatusAmong init_statuses status → status ≡ Usage → ⊥
 init_not_usage status among =
     each (Not Usage) init_statuses status ((λ e. cc), ((λ e. cc), ((λ e. cc), ((λ e. cc), ((λ e. cc), ((λ e. cc), ((λ e. cc), ((λ e. cc), tt)))))))) among
 
-import_not_usage : (status : Status) → IsAmong import_statuses status → status ≡ Usage → ⊥
+import_not_usage : (status : Status) → IsStatusAmong import_statuses status → status ≡ Usage → ⊥
 import_not_usage status among =
     each (Not Usage) import_statuses status ((λ e. cc), ((λ e. cc), ((λ e. cc), ((λ e. cc), ((λ e. cc), ((λ e. cc), ((λ e. cc), ((λ e. cc), ((λ e. cc), tt))))))))) among
 
-apply_not_usage : (status : Status) → IsAmong apply_statuses status → status ≡ Usage → ⊥
+apply_not_usage : (status : Status) → IsStatusAmong apply_statuses status → status ≡ Usage → ⊥
 apply_not_usage status among =
     each (Not Usage) apply_statuses status ((λ e. cc), ((λ e. cc), ((λ e. cc), ((λ e. cc), ((λ e. cc), ((λ e. cc), ((λ e. cc), ((λ e. cc), tt)))))))) among
 
-quiet_not_usage : (status : Status) → IsAmong quiet_statuses status → status ≡ Usage → ⊥
+quiet_not_usage : (status : Status) → IsStatusAmong quiet_statuses status → status ≡ Usage → ⊥
 quiet_not_usage status among =
     each (Not Usage) quiet_statuses status ((λ e. cc), ((λ e. cc), ((λ e. cc), ((λ e. cc), ((λ e. cc), tt))))) among
 
-gen_not_usage : (status : Status) → IsAmong gen_statuses status → status ≡ Usage → ⊥
+gen_not_usage : (status : Status) → IsStatusAmong gen_statuses status → status ≡ Usage → ⊥
 gen_not_usage status among =
     each (Not Usage) gen_statuses status ((λ e. cc), ((λ e. cc), ((λ e. cc), tt))) among
 

@@ -5,9 +5,9 @@ use Rattle.store_session.proofs.JournalRuns.{runs_alike}
 use Rattle.store_session.specs.SessionStates.{session_state}
 use Rattle.store_session.specs.declared.session.StoreSession.{StoreSession}
 use Rattle.store_session.proofs.StatesInStep.{stored_sound}
-use Rattle.editlens_main.specs.Stores.{StaysInStep}
+use Rattle.editlens_main.specs.Stores.{StoreStaysInStep}
 
-pub stays_in_step : (payloads : List (List ℕ)) (state : StoredState) (version : Option (List ℕ)) → stands_for payloads ≡ Ok (state, version) → StaysInStep state
+pub stays_in_step : (payloads : List (List ℕ)) (state : StoredState) (version : Option (List ℕ)) → stands_for payloads ≡ Ok (state, version) → StoreStaysInStep state
 stays_in_step payloads state version stands =
     let sound = stored_sound payloads state version stands in
     record { first = sound.1; runs = λ lines steps is. runs_alike (λ (s : StoreSession). session_state s.session) state 0 lines steps sound.0 sound.1 is }

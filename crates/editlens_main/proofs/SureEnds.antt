@@ -18,8 +18,9 @@ use Rattle.script_run.specs.declared.script_state.ScriptState as OfScript
 use Rattle.script_run.proofs.Complete.{complete}
 use Rattle.store_session.specs.StoredStates.{StoredState}
 use Rattle.store_session.specs.contracts.instance.StoreSessionStoredSession.TheImpl.{ghosts as sessions}
-use Rattle.store_undo.specs.UndoCauses.{UndoHasNoRoom, IsCauseInRoom as IsUndoCauseInRoom}
+use Rattle.store_undo.specs.UndoCauses.{UndoHasNoRoom, IsUndoCauseInRoom}
 use Rattle.store_undo.specs.Undoing.{Undoing}
+use Rattle.store_run.specs.Devices.{Devices}
 use Rattle.store_run.specs.Refusals.{EndsRefused}
 use Rattle.store_run.specs.Rooms.{RunHasNoRoom, IsCauseInRoom, PackHasNoRoom, IsPackCauseInRoom}
 use Rattle.store_run.specs.ViewCall.{Views}
@@ -106,14 +107,14 @@ module _ (status : Status) (is_full : Type 0) (source : status ≡ SourceFault �
   -- a command that makes a store on an empty disk
   module _ {S K D : Type 0} (devices : OfSource.Ghosts S) (gifts : OfSink.Ghosts K) (disk : OfDisk.Ghosts D) (command : Command)
       (accepts : (bytes : List ℕ) (payloads : List (List ℕ)) (lines : List ℕ) → command.makes bytes payloads lines → IsAcceptedPart command.part bytes)
-      (refuses : (bytes line : List ℕ) → command.refuses bytes line → IsAcceptedPart command.part bytes) (old new : S × K × D)
-      (bytes : List ℕ) (known : devices.left old.0 ≡ Some bytes) (empty : disk.content old.2 ≡ Some []) (few : length bytes ≤ MOST_BYTES)
+      (refuses : (bytes line : List ℕ) → command.refuses bytes line → IsAcceptedPart command.part bytes) (old new : Devices S K D)
+      (bytes : List ℕ) (known : devices.left old.source ≡ Some bytes) (empty : disk.content old.disk ≡ Some []) (few : length bytes ≤ MOST_BYTES)
       (no_room : Type 0) (full : status ≡ DiskFault → no_room) where
     pub made_in_room : Ends devices gifts disk command old new status → MadeInRoom status is_full command bytes no_room
     made_in_room ends = by_status status refl where
       no_device : (status ≡ SinkFault → ⊥) → (status ≡ DiskFault → ⊥) → MadeInRoom status is_full command bytes no_room
       no_device no_sink no_disk =
-          inl (inl (by_end devices gifts disk command accepts refuses ⊥ (status ≡ SinkFault) (status ≡ DiskFault) old.0 new.0 old.1 new.1 old.2 new.2 status bytes (devices.left new.0) ends known refl
+          inl (inl (by_end devices gifts disk command accepts refuses ⊥ (status ≡ SinkFault) (status ≡ DiskFault) old.source new.source old.sink new.sink old.disk new.disk status bytes (devices.left new.source) ends known refl
           source (λ e. e) (λ e. e) empty few (λ e. e) no_sink no_disk))
 
       by_status : (s : Status) → status ≡ s → MadeInRoom status is_full command bytes no_room

@@ -10,9 +10,10 @@ use Rattle.store_new.specs.Import.{Imports, RefusesImport, import_command}
 use Rattle.editlens_main.specs.MakesStore.{FindsLog}
 use Rattle.command_ends.specs.declared.status.Status.{Status}
 use Rattle.command_ends.specs.declared.status.Status.TheVariants.{Done, SomeRefused, DiskFault}
+use Rattle.store_run.specs.Devices.{Devices}
 
 module _ {S K D : Type 0} (source : OfSource.Ghosts S) (sink : OfSink.Ghosts K) (disk : OfDisk.Ghosts D)
-    (old new : S × K × D) (status : Status) where
+    (old new : Devices S K D) (status : Status) where
   pub record ImportsStore : Type 0 where
     -- after Done the disk was empty, and holds the program and the entry that makes the document; its answer and the
     -- state lines were written, for a consistent triple whose left document is the one that was read
@@ -25,9 +26,10 @@ module _ {S K D : Type 0} (source : OfSource.Ghosts S) (sink : OfSink.Ghosts K) 
     -- A program part that is whole and refused is refused, whatever comes after it, unless the sink failed or memory
     -- ran out. Then at most the rest of the call of the source that ended its separator was read; where no separator
     -- came, the source is at its end.
-    pub at_once : RefusesAtOnce one_program source old.0 new.0 status
+    pub at_once : RefusesAtOnce one_program source old.source new.source status
     -- a disk of known room fails only if the script was read to its end and the disk has no room for its store
-    pub caused : status ≡ DiskFault → IfSome (disk.room old.2) (ScriptHasNoRoom source import_command old.0 new.0)
+    pub caused : status ≡ DiskFault
+        → IfSome (disk.room old.disk) (ScriptHasNoRoom source import_command old.source new.source)
     -- over an empty disk and at most 2^30 bytes, if no device fails and the log has room, it comes to its end, or
     -- refuses the program part or the document, or memory runs out
     pub completes : Completes source sink disk import_command old new status

@@ -8,7 +8,7 @@ use Rattle.store_run.specs.CountLines.{consistent_line}
 use Rattle.store_run.specs.Refusals.{IsUnwritten}
 use Rattle.store_run.specs.ViewCall as call
 use Rattle.store_session.specs.Journals.{IsStateInStep}
-use Rattle.store_session.specs.StoredStates.{StoredState, count_of, state_text}
+use Rattle.store_session.specs.StoredStates.{StoredState, changes_counted, state_text}
 use Rattle.editlens_main.specs.Stores.{Store, RefusedStore, RefusesStore}
 use Rattle.command_ends.specs.declared.status.Status.{Status}
 use Rattle.command_ends.specs.declared.status.Status.TheVariants.{Done, DiskFault, NoMemory}
@@ -18,7 +18,7 @@ abbrev pub shown : StoredState → List (List ℕ) → List ℕ
 shown state payloads = state_text state
 
 abbrev pub verified : StoredState → List (List ℕ) → List ℕ
-verified state payloads = consistent_line (count_of payloads)
+verified state payloads = consistent_line (changes_counted payloads)
 
 module _ {K D : Type 0} (sink : OfSink.Ghosts K) (disk : OfDisk.Ghosts D) (old new : K × D) (status : Status) where
   -- what is written of a state and its payloads is given by `text`

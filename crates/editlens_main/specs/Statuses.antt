@@ -1,6 +1,6 @@
 -- How each command may end, whatever the devices tell.
 use Rattle.std.specs.Prelude.{List, [], ◌∷◌, Option, Some, None}
-use Rattle.command_ends.specs.Statuses.{IsAmong, apply_statuses, import_statuses, init_statuses, quiet_statuses}
+use Rattle.command_ends.specs.Statuses.{IsStatusAmong, apply_statuses, import_statuses, init_statuses, quiet_statuses}
 use Rattle.command_ends.specs.Statuses.{script_statuses}
 use Rattle.command_ends.specs.declared.status.Status.{Status}
 use Rattle.command_ends.specs.declared.status.Status.TheVariants.{Done, Usage, SinkFault, NoMemory}
@@ -28,4 +28,4 @@ statuses_of (Some order.Hub) = script_statuses
 statuses_of (Some order.Link) = script_statuses
 
 abbrev pub MayEnd : Option Order → Status → Type 0
-MayEnd order status = IsAmong (statuses_of order) status
+MayEnd order status = IsStatusAmong (statuses_of order) status

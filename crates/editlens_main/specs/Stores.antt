@@ -24,7 +24,7 @@ RefusedStore disk d = stores.RefusedStore disk sessions d
 
 -- The state is in its lens's consistency relation. Each run of a journal from it on is the run of the journal's items,
 -- and all its states are in that relation.
-pub record StaysInStep (state : StoredState) : Type 0 where
+pub record StoreStaysInStep (state : StoredState) : Type 0 where
   pub first : IsStateInStep state
   pub runs : (lines : List Line) (steps : List (StoredState × StoredAnswer)) → run sessions state 0 lines ≡ Some steps
       → IsJournalRun state 0 lines steps

@@ -21,10 +21,3 @@ GivesUsage sink old new status =
 pub record LeavesAlone {S D : Type 0} (order : Option Order) (old new : S × D) : Type 0 where
   pub unread : reads_source order ≡ false → new.0 ≡ old.0
   pub untouched : uses_disk order ≡ false → new.1 ≡ old.1
-
--- these statuses come only if the device failed
-pub record IsCaused {S K D : Type 0} (source : OfSource.Ghosts S) (sink : OfSink.Ghosts K) (disk : OfDisk.Ghosts D)
-    (old new : S × K × D) (status : Status) : Type 0 where
-  pub source_fault : status ≡ SourceFault → SourceFailed source old.0 new.0
-  pub sink_fault : status ≡ SinkFault → SinkFailed sink old.1 new.1
-  pub disk_fault : status ≡ DiskFault → DiskFailed disk old.2 new.2

@@ -9,7 +9,7 @@ use Rattle.store_run.specs.Rooms.{most_bytes}
 use Rattle.store_run.specs.StoreEnds.{StoresBehind}
 use Rattle.store_undo.specs.UndoCall.{UndoesCall, IsUntouched, IsSafeUndo, HoldsNow}
 use Rattle.store_undo.specs.UndoCauses.{UndoHasNoRoom, IsUndoCause}
-use Rattle.store_undo.specs.UndoRecords.{undo_text, version_due, snapshot_text}
+use Rattle.store_undo.specs.UndoRecords.{undo_text, version_due, undo_snapshot_text}
 use Rattle.store_undo.specs.UndoStores.{StoreToUndo, RefusedToUndo}
 use Rattle.editlens_main.specs.Stores.{RefusesStore}
 use Rattle.command_ends.specs.declared.status.Status.{Status}
@@ -23,7 +23,7 @@ module _ (count : ℕ) {K D : Type 0} (sink : OfSink.Ghosts K) (disk : OfDisk.Gh
   Exits store ended =
       StoresBehind sink disk old new (λ d1 _. IsOpening disk old.1 d1) store.payloads
       (undo_text store.undone) (option_to_list (version_due store.undone.now.version))
-      (snapshot_text store.undone) ended
+      (undo_snapshot_text store.undone) ended
       ⊎ IsUnwritten disk old.1 new.1 × FailsUnopened sink disk old new ended
 
   -- the store was not opened: the disk failed, and nothing has changed; or memory ran out before any device was called

@@ -1,5 +1,5 @@
 //! The command `gen`: the generated run, and its summary.
-ghost use Rattle.command_ends.specs.Statuses.{IsAmong};
+ghost use Rattle.command_ends.specs.Statuses.{IsStatusAmong};
 ghost use Rattle.std.specs.Prelude.{◌≡◌, ◌⊎◌, ◌≤◌, IfOk, string_bytes};
 ghost use Rattle.lens_io.specs.Calls.{SinkFailed};
 ghost use Rattle.editlens_main.specs.Generated.{WritesSummary, count_lines, list_lines, summary_lines};
@@ -19,7 +19,7 @@ pub fn run_generated<K: Sink>(alloc: Global, count: u64, seed: u64, sink: &mut K
     ensures written { WritesSummary count seed (K.held sink.old) (K.held sink.new) result }
     ensures complete { (SinkFailed K.Sink sink.old sink.new → ⊥)
         → (result ≡ Status.Done) ⊎ (result ≡ Status.NoMemory) }
-    ensures statuses { IsAmong gen_statuses result }
+    ensures statuses { IsStatusAmong gen_statuses result }
     ensures sink_fault { result ≡ Status.SinkFault → SinkFailed K.Sink sink.old sink.new }
 {
     let Ok(summary) = generate(alloc, count, seed) else {

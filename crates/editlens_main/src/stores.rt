@@ -1,12 +1,13 @@
 //! The commands over a store that is there: `apply`, `show`, `verify`, `pack` and `undo`. The last is the call of
 //! store_undo. Each other one is the call of store_run with the sessions of store_session.
-ghost use Rattle.command_ends.specs.Statuses.{IsAmong, apply_statuses, quiet_statuses};
+ghost use Rattle.command_ends.specs.Statuses.{IsStatusAmong, apply_statuses, quiet_statuses};
 ghost use Rattle.std.specs.Prelude.{◌≡◌};
 ghost use Rattle.lens_io.specs.Calls.{SourceFailed, SinkFailed, DiskFailed};
 ghost use Rattle.editlens_main.specs.Applies.{Applies};
 ghost use Rattle.editlens_main.specs.Packs.{Packs};
 ghost use Rattle.editlens_main.specs.Shows.{Shows, Verifies};
 ghost use Rattle.editlens_main.specs.Undoes.{Undoes};
+ghost use Rattle.store_run.specs.Devices.{devices_of};
 
 use command_ends::Status;
 use lens_io::{Disk, Sink, Source};
@@ -23,8 +24,8 @@ pub fn run_apply<S: Source, K: Sink, D: Disk>(
     disk: &mut D,
 ) -> Status
     ensures applies { Applies S.Source K.Sink D.Disk
-        (source.old, sink.old, disk.old) (source.new, sink.new, disk.new) result }
-    ensures statuses { IsAmong apply_statuses result }
+        (devices_of source.old sink.old disk.old) (devices_of source.new sink.new disk.new) result }
+    ensures statuses { IsStatusAmong apply_statuses result }
     ensures source_fault { result ≡ Status.SourceFault → SourceFailed S.Source source.old source.new }
     ensures sink_fault { result ≡ Status.SinkFault → SinkFailed K.Sink sink.old sink.new }
     ensures disk_fault { result ≡ Status.DiskFault → DiskFailed D.Disk disk.old disk.new }
@@ -35,7 +36,7 @@ pub fn run_apply<S: Source, K: Sink, D: Disk>(
 /// Shows the state of the store.
 pub fn run_show<K: Sink, D: Disk>(alloc: Global, sink: &mut K, disk: &mut D) -> Status
     ensures shows { Shows K.Sink D.Disk (sink.old, disk.old) (sink.new, disk.new) result }
-    ensures statuses { IsAmong quiet_statuses result }
+    ensures statuses { IsStatusAmong quiet_statuses result }
     ensures sink_fault { result ≡ Status.SinkFault → SinkFailed K.Sink sink.old sink.new }
     ensures disk_fault { result ≡ Status.DiskFault → DiskFailed D.Disk disk.old disk.new }
 {
@@ -45,7 +46,7 @@ pub fn run_show<K: Sink, D: Disk>(alloc: Global, sink: &mut K, disk: &mut D) -> 
 /// Counts the changes of the store.
 pub fn run_verify<K: Sink, D: Disk>(alloc: Global, sink: &mut K, disk: &mut D) -> Status
     ensures verifies { Verifies K.Sink D.Disk (sink.old, disk.old) (sink.new, disk.new) result }
-    ensures statuses { IsAmong quiet_statuses result }
+    ensures statuses { IsStatusAmong quiet_statuses result }
     ensures sink_fault { result ≡ Status.SinkFault → SinkFailed K.Sink sink.old sink.new }
     ensures disk_fault { result ≡ Status.DiskFault → DiskFailed D.Disk disk.old disk.new }
 {
@@ -55,7 +56,7 @@ pub fn run_verify<K: Sink, D: Disk>(alloc: Global, sink: &mut K, disk: &mut D) -
 /// Adds a snapshot to the store.
 pub fn run_pack<K: Sink, D: Disk>(alloc: Global, sink: &mut K, disk: &mut D) -> Status
     ensures packs { Packs K.Sink D.Disk (sink.old, disk.old) (sink.new, disk.new) result }
-    ensures statuses { IsAmong quiet_statuses result }
+    ensures statuses { IsStatusAmong quiet_statuses result }
     ensures sink_fault { result ≡ Status.SinkFault → SinkFailed K.Sink sink.old sink.new }
     ensures disk_fault { result ≡ Status.DiskFault → DiskFailed D.Disk disk.old disk.new }
 {
@@ -65,7 +66,7 @@ pub fn run_pack<K: Sink, D: Disk>(alloc: Global, sink: &mut K, disk: &mut D) -> 
 /// Takes the store back to what it was before its last changes.
 pub fn run_undo<K: Sink, D: Disk>(alloc: Global, count: u64, sink: &mut K, disk: &mut D) -> Status
     ensures undoes { Undoes count K.Sink D.Disk (sink.old, disk.old) (sink.new, disk.new) result }
-    ensures statuses { IsAmong quiet_statuses result }
+    ensures statuses { IsStatusAmong quiet_statuses result }
     ensures sink_fault { result ≡ Status.SinkFault → SinkFailed K.Sink sink.old sink.new }
     ensures disk_fault { result ≡ Status.DiskFault → DiskFailed D.Disk disk.old disk.new }
 {

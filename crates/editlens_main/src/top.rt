@@ -15,7 +15,9 @@ ghost use Rattle.editlens_main.specs.Packs.{Packs};
 ghost use Rattle.editlens_main.specs.Runs.{Runs, Checks, RunsHub, RunsLink};
 ghost use Rattle.editlens_main.specs.Shows.{Shows, Verifies};
 ghost use Rattle.editlens_main.specs.Statuses.{MayEnd};
-ghost use Rattle.editlens_main.specs.Top.{GivesUsage, LeavesAlone, IsCaused};
+ghost use Rattle.editlens_main.specs.Top.{GivesUsage, LeavesAlone};
+ghost use Rattle.store_run.specs.Devices.{devices_of};
+ghost use Rattle.store_run.specs.FaultCauses.{FaultsAreCaused};
 ghost use Rattle.editlens_main.specs.Undoes.{Undoes};
 
 use crate::generated::run_generated;
@@ -82,11 +84,14 @@ pub fn editlens<S: Source, K: Sink, D: Disk>(
 
     // The commands that make a store, and those over one.
     ensures init { order_named words.now ≡ Some Init
-        → MakesStore S.Source K.Sink D.Disk (source.old, sink.old, disk.old) (source.new, sink.new, disk.new) result }
+        → MakesStore S.Source K.Sink D.Disk (devices_of source.old sink.old disk.old)
+        (devices_of source.new sink.new disk.new) result }
     ensures import { order_named words.now ≡ Some Import
-        → ImportsStore S.Source K.Sink D.Disk (source.old, sink.old, disk.old) (source.new, sink.new, disk.new) result }
+        → ImportsStore S.Source K.Sink D.Disk (devices_of source.old sink.old disk.old)
+        (devices_of source.new sink.new disk.new) result }
     ensures apply { order_named words.now ≡ Some Apply
-        → Applies S.Source K.Sink D.Disk (source.old, sink.old, disk.old) (source.new, sink.new, disk.new) result }
+        → Applies S.Source K.Sink D.Disk (devices_of source.old sink.old disk.old)
+        (devices_of source.new sink.new disk.new) result }
     ensures show { order_named words.now ≡ Some Show
         → Shows K.Sink D.Disk (sink.old, disk.old) (sink.new, disk.new) result }
     ensures verify { order_named words.now ≡ Some Verify
@@ -100,8 +105,8 @@ pub fn editlens<S: Source, K: Sink, D: Disk>(
     ensures usage { order_named words.now ≡ None → GivesUsage K.Sink sink.old sink.new result }
     ensures statuses { MayEnd (order_named words.now) result }
     ensures leaves { LeavesAlone (order_named words.now) (source.old, disk.old) (source.new, disk.new) }
-    ensures causes { IsCaused S.Source K.Sink D.Disk
-        (source.old, sink.old, disk.old) (source.new, sink.new, disk.new) result }
+    ensures causes { FaultsAreCaused S.Source K.Sink D.Disk
+        (devices_of source.old sink.old disk.old) (devices_of source.new sink.new disk.new) result }
 {
     match read_words(alloc, words) {
         Ok(order) => run_order(alloc, order, source, sink, disk),
@@ -120,7 +125,7 @@ fn run_order<S: Source, K: Sink, D: Disk>(
 ) -> Status
     requires { HasFewEntries order }
     ensures ends { EndsOrder S.Source K.Sink D.Disk
-        (source.old, sink.old, disk.old) (source.new, sink.new, disk.new) result order }
+        (devices_of source.old sink.old disk.old) (devices_of source.new sink.new disk.new) result order }
     ensures statuses { MayEnd (Some order) result }
     ensures unread { reads_source (Some order) ≡ false → source.new ≡ source.old }
     ensures untouched { uses_disk (Some order) ≡ false → disk.new ≡ disk.old }

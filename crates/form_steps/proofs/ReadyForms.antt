@@ -2,7 +2,7 @@
 use Rattle.std.proofs.Common.{◌≡◌, ℕ, zero, suc, ◌<◌, true, ◌&&◌, Some, arith}
 use Rattle.texts.proofs.Conjunction.{first as first_and, second as second_and}
 use Rattle.doc_values.specs.Types.{is_well_formed, are_distinct, are_choices, is_same_ty}
-use Rattle.lens_forms.specs.Forms.{FormTree, form_then, form_rec, form_alt, RowTrees, no_rows, both, only_left, only_right, row_list, ArmTrees, no_arms, more_arms, left_type, right_type}
+use Rattle.lens_forms.specs.Forms.{FormTree, form_then, form_rec, form_alt, RowTrees, no_rows, both, only_left, only_right, form_row_list, ArmTrees, no_arms, more_arms, left_type, right_type}
 use Rattle.lens_forms.specs.Measures.{form_parts, rows_parts, arms_parts}
 use Rattle.lens_forms.specs.Typing.{is_typed, are_typed_rows, are_typed_arms, left_names, right_names, left_arms, right_arms}
 use Rattle.lens_branch.specs.AlternativeSteps.{arm_lens}
@@ -24,7 +24,7 @@ ready_second l k h =
 
 -- ---- record
 
-typed_row : (rows : RowTrees) (i : ℕ) (l : FormTree) → row_lens (row_list rows) i ≡ Some l → are_typed_rows rows ≡ true → is_typed l ≡ true
+typed_row : (rows : RowTrees) (i : ℕ) (l : FormTree) → row_lens (form_row_list rows) i ≡ Some l → are_typed_rows rows ≡ true → is_typed l ≡ true
 typed_row no_rows i l e h = cc
 typed_row (both a b k rows) zero l e h = let first = first_and (is_typed k) (are_typed_rows rows) h in cc
 typed_row (both a b k rows) (suc i) l e h = typed_row rows i l e (second_and (is_typed k) (are_typed_rows rows) h)
@@ -34,7 +34,7 @@ typed_row (only_right b t rows) i l e h = typed_row rows i l e (second_and (is_w
 same_parts : (l k : FormTree) → Some k ≡ Some l → form_parts k ≡ form_parts l
 same_parts l k e = cc
 
-pub row_smaller : (rows : RowTrees) (i : ℕ) (l : FormTree) → row_lens (row_list rows) i ≡ Some l → form_parts l < rows_parts rows
+pub row_smaller : (rows : RowTrees) (i : ℕ) (l : FormTree) → row_lens (form_row_list rows) i ≡ Some l → form_parts l < rows_parts rows
 row_smaller no_rows i l e = cc
 row_smaller (both a b k rows) zero l e = omega (arith, same_parts l k e)
 row_smaller (both a b k rows) (suc i) l e = let rest : form_parts l < rows_parts rows = row_smaller rows i l e in omega (arith, rest)
@@ -42,7 +42,7 @@ row_smaller (only_left a t rows) i l e = let rest : form_parts l < rows_parts ro
 row_smaller (only_right b t rows) i l e = let rest : form_parts l < rows_parts rows = row_smaller rows i l e in omega (arith, rest)
 
 -- the lens of a row
-pub ready_row : (rows : RowTrees) (i : ℕ) (l : FormTree) → row_lens (row_list rows) i ≡ Some l → IsReady (form_rec rows) → IsReady l
+pub ready_row : (rows : RowTrees) (i : ℕ) (l : FormTree) → row_lens (form_row_list rows) i ≡ Some l → IsReady (form_rec rows) → IsReady l
 ready_row rows i l e h =
     let small = h.1 in
     (typed_row rows i l e (first_and (are_typed_rows rows) (are_distinct (left_names rows) && are_distinct (right_names rows)) h.0), omega (arith, small, row_smaller rows i l e))

@@ -5,7 +5,7 @@ use Rattle.program_tokens.specs.Words.{is_space, begins_word, in_word, keyword_o
 use Rattle.program_tokens.specs.Tokens.{piece_of, tokens_from}
 use Rattle.program_grammar.specs.Reading.{arm_at, both_row_at, closed_at, field_at, list_at, mark_lens, more_at, part_at, perhaps_at, rec_at, row_at, then_at, typed_at, mark_at, name_at, number_at, initial_at, type_at, type_step, begun_type, word_type, lens_at, lens_step, begun_lens, word_lens, type_term_at, lens_term_at, definition_at, definitions_at, main_at, end_at, program_at}
 use Rattle.program_terms.specs.Terms.{ProgramTree}
-use Rattle.lens_syntax.specs.Programs.{bounded, cause_of, IsRefusal}
+use Rattle.lens_syntax.specs.Programs.{bounded, program_fault_cause, IsTextRefusal}
 use Rattle.lens_syntax.specs.declared.fault.ProgramFault.{ProgramFault}
 use Rattle.lens_syntax.specs.declared.fault.ProgramFault.TheVariants as reading
 use Rattle.lens_types.specs.Faults.{IsFaultOf}
@@ -30,7 +30,7 @@ pub read_is : (text : List ℕ) (program : ProgramTree) → text ≡ program_tex
 read_is text program is read = let e = sym read ∙ (ap bounded is ∙ text_is_read) in cc
 
 -- so reading it fails only if memory runs out
-pub reading_fault : (text : List ℕ) (fault : ProgramFault) → text ≡ program_text → IsRefusal (cause_of fault) (bounded text) → fault ≡ reading.NoMemory
+pub reading_fault : (text : List ℕ) (fault : ProgramFault) → text ≡ program_text → IsTextRefusal (program_fault_cause fault) (bounded text) → fault ≡ reading.NoMemory
 reading_fault text reading.ProgramTooLong is refused = let e = sym refused ∙ (ap bounded is ∙ text_is_read) in cc
 reading_fault text (reading.NotAProgram at) is refused = let e = sym refused ∙ (ap bounded is ∙ text_is_read) in cc
 reading_fault text (reading.UnknownName at) is refused = let e = sym refused ∙ (ap bounded is ∙ text_is_read) in cc

@@ -16,7 +16,7 @@ use Rattle.edit_session.specs.Step.{TripleTree, IsInStep, document_on, step}
 use Rattle.generated_run.specs.declared.choice.Choice.{Choice}
 use Rattle.generated_run.specs.declared.choice.Choice.TheVariants.{InsertItem, InsertNumber, MoveItem, AddToNumber}
 use Rattle.generated_run.specs.Program.{generated_form}
-use Rattle.generated_run.specs.Journal.{choice, entry_of, texts_after, numbers_after, run_from}
+use Rattle.generated_run.specs.Journal.{choice, entry_of, texts_after, numbers_after, generated_run_from}
 use Rattle.generated_run.specs.Invariant.{IsGenerated, IsPossible, counted}
 use Rattle.generated_run.proofs.Applied.{applies}
 use Rattle.generated_run.proofs.Counted.{stepped, counted_step}
@@ -63,7 +63,7 @@ never_refused form is c k p o t side w fault small possible h entry unless =
 -- what a step leads to
 pub record IsTaken (c : Choice) (k : ℕ) (p : ℕ) (o : ℕ) (seed : ℕ) (t : TripleTree) (t' : TripleTree) : Type 0 where
   pub generated : IsGenerated (k + 1) (texts_after c p) (numbers_after c o) t'
-  pub counts : (rest : List (Side × WordTree)) → counted k t (run_from t (entry_of c ∷ rest)) ≡ counted (k + 1) t' (run_from t' rest)
+  pub counts : (rest : List (Side × WordTree)) → counted k t (generated_run_from t (entry_of c ∷ rest)) ≡ counted (k + 1) t' (generated_run_from t' rest)
 
 pub taken : (form : FormTree) → form ≡ generated_form → (c : Choice) (k p o seed : ℕ) (t t' : TripleTree) (e : Side × WordTree) (w : WordTree)
     → k < 10000 → IsPossible c (k + 1) p o → IsGenerated k p o t → e ≡ entry_of c

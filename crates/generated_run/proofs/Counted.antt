@@ -16,7 +16,7 @@ use Rattle.edit_session.specs.Step.{TripleTree, Stepped, document_on, triple_fro
 use Rattle.edit_session.specs.Run.{AnswerTree, carried}
 use Rattle.generated_run.specs.declared.summary.Summary.{Summary}
 use Rattle.generated_run.specs.Program.{generated_form}
-use Rattle.generated_run.specs.Journal.{accepted_among, refused_among, summarized, run_from}
+use Rattle.generated_run.specs.Journal.{accepted_among, refused_among, summarized, generated_run_from}
 use Rattle.generated_run.specs.Invariant.{counted}
 
 -- ---- the document of the entry's side after a step
@@ -64,5 +64,5 @@ counted_more n t t' side w (Some steps) =
 -- after a step one more is accepted
 pub counted_step : (n : ℕ) (t t' : TripleTree) (e : Side × WordTree) (w : WordTree) (es : List (Side × WordTree))
     → step (left_type generated_form) (right_type generated_form) (translate generated_form) t e ≡ Some (Ok (t', w))
-    → counted n t (run_from t (e ∷ es)) ≡ counted (n + 1) t' (run_from t' es)
-counted_step n t t' e w es is = rw is (counted_more n t t' (other e.0) w (run_from t' es))
+    → counted n t (generated_run_from t (e ∷ es)) ≡ counted (n + 1) t' (generated_run_from t' es)
+counted_step n t t' e w es is = rw is (counted_more n t t' (other e.0) w (generated_run_from t' es))

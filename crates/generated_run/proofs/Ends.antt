@@ -4,7 +4,7 @@ use Rattle.std.specs.Prelude.{◌+ℤ◌}
 use Rattle.std.proofs.lemmas.Int.{ints}
 use Rattle.doc_values.specs.Documents.{DocTree, unit}
 use Rattle.edit_session.specs.Step.{TripleTree}
-use Rattle.generated_run.specs.Journal.{number_in, sum_of, names_in, nums_in, first_triple}
+use Rattle.generated_run.specs.Journal.{generated_number, sum_of, generated_names, nums_in, first_triple}
 use Rattle.generated_run.specs.Invariant.{absolute, weight, texts_of, numbers_of, IsGenerated, counted}
 use Rattle.doc_values.proofs.Lists.{doc_list-docs_of}
 
@@ -20,8 +20,8 @@ starts = record {
 nums_are : (k p o : ℕ) (t : TripleTree) (h : IsGenerated k p o t) → nums_in t.right ≡ numbers_of h.documents.items
 nums_are k p o t h = ap nums_in h.documents.right_is ∙ doc_list-docs_of (numbers_of h.documents.items)
 
-names_are : (k p o : ℕ) (t : TripleTree) (h : IsGenerated k p o t) → names_in t.right ≡ texts_of h.documents.items
-names_are k p o t h = ap names_in h.documents.right_is ∙ doc_list-docs_of (texts_of h.documents.items)
+names_are : (k p o : ℕ) (t : TripleTree) (h : IsGenerated k p o t) → generated_names t.right ≡ texts_of h.documents.items
+names_are k p o t h = ap generated_names h.documents.right_is ∙ doc_list-docs_of (texts_of h.documents.items)
 
 -- twice the numbers together are at most k times k + 1
 pub light : (k p o : ℕ) (t : TripleTree) → IsGenerated k p o t → 2 * weight (nums_in t.right) ≤ k * (k + 1)
@@ -40,7 +40,7 @@ pub ended : (k p o : ℕ) (t : TripleTree) → IsGenerated k p o t
     → counted k t (Some []) ≡ Some (record { accepted = k; refused = 0; names = p; nums = o; sum = sum_of (nums_in t.right) })
 ended k p o t h =
     let a : k + 0 ≡ k = omega arith in
-    let n : length (names_in t.right) ≡ p = ap length (names_are k p o t h) ∙ h.texts in
+    let n : length (generated_names t.right) ≡ p = ap length (names_are k p o t h) ∙ h.texts in
     let m : length (nums_in t.right) ≡ o = ap length (nums_are k p o t h) ∙ h.numbers in
     rw (a, n, m) refl
 
@@ -68,16 +68,16 @@ module _ (ds : List DocTree) (i : ℕ) (s : ℤ) (below : i < length ds) (h : Is
   here : drop i ds ≡ get_or ds i unit ∷ drop (suc i) ds
   here = drop-cons ds i unit below
 
-  pub sum_more : IsSummed ds (suc i) (s +ℤ number_in (get_or ds i unit))
+  pub sum_more : IsSummed ds (suc i) (s +ℤ generated_number (get_or ds i unit))
   sum_more =
       let a = ap sum_of here in
       let w = ap weight here in
-      let b = absolute_sum s (number_in (get_or ds i unit)) in
+      let b = absolute_sum s (generated_number (get_or ds i unit)) in
       let sum = h.sum in
       let small = h.small in
       record { sum = omega (arith, ints); small = omega arith }
 
-  pub sum_below : absolute (s +ℤ number_in (get_or ds i unit)) ≤ weight ds
+  pub sum_below : absolute (s +ℤ generated_number (get_or ds i unit)) ≤ weight ds
   sum_below = let more = sum_more in let small = more.small in omega arith
 
 -- a sum is at most what the numbers are together
@@ -85,5 +85,5 @@ pub sum_within : (ds : List DocTree) → absolute (sum_of ds) ≤ weight ds
 sum_within [] = omega arith
 sum_within (d ∷ ds) =
     let rest = sum_within ds in
-    let more = absolute_sum (number_in d) (sum_of ds) in
+    let more = absolute_sum (generated_number d) (sum_of ds) in
     omega arith

@@ -6,7 +6,7 @@ use Rattle.edit_session.specs.Step.{TripleTree}
 use Rattle.edit_session.specs.Run.{AnswerTree}
 use Rattle.generated_run.specs.declared.summary.Summary.{Summary}
 use Rattle.generated_run.specs.Program.{generated_form}
-use Rattle.generated_run.specs.Journal.{accepted_among, sum_of, nums_in, summarized, entries, first_triple, run_from, summary_of}
+use Rattle.generated_run.specs.Journal.{accepted_among, sum_of, nums_in, summarized, entries, first_triple, generated_run_from, summary_of}
 use Rattle.generated_run.specs.Invariant.{IsGenerated, counted}
 use Rattle.generated_run.proofs.Ends.{starts, ended}
 
@@ -14,7 +14,7 @@ use Rattle.generated_run.proofs.Ends.{starts, ended}
 pub record IsAt (count : ℕ) (seed : ℕ) (k : ℕ) (s : ℕ) (p : ℕ) (o : ℕ) (form : FormTree) (t : TripleTree) : Type 0 where
   pub lens : form ≡ generated_form
   pub generated : IsGenerated k p o t
-  pub counts : (rest : ℕ) → k + rest ≡ count → summary_of count seed ≡ counted k t (run_from t (entries rest (k + 1) s p o))
+  pub counts : (rest : ℕ) → k + rest ≡ count → summary_of count seed ≡ counted k t (generated_run_from t (entries rest (k + 1) s p o))
 
 counted_none : (t : TripleTree) (o : Option (List (TripleTree × AnswerTree ⊥))) → option_map (summarized t) o ≡ counted 0 t o
 counted_none t None = refl
@@ -27,12 +27,12 @@ begins count seed form t lens is =
       generated = starts;
       counts = λ rest e.
           let same : rest ≡ count = omega arith in
-          subst (λ n. summary_of count seed ≡ counted 0 first_triple (run_from first_triple (entries n 1 seed 0 0))) (sym same)
-          (counted_none first_triple (run_from first_triple (entries count 1 seed 0 0)));
+          subst (λ n. summary_of count seed ≡ counted 0 first_triple (generated_run_from first_triple (entries n 1 seed 0 0))) (sym same)
+          (counted_none first_triple (generated_run_from first_triple (entries count 1 seed 0 0)));
     })
 
 pub goes_on : (count seed k s p o s' p' o' : ℕ) (form form' : FormTree) (t t' : TripleTree) → IsAt count seed k s p o form t → form' ≡ form → IsGenerated (k + 1) p' o' t'
-    → ((rest : ℕ) → counted k t (run_from t (entries (suc rest) (k + 1) s p o)) ≡ counted (k + 1) t' (run_from t' (entries rest (k + 1 + 1) s' p' o')))
+    → ((rest : ℕ) → counted k t (generated_run_from t (entries (suc rest) (k + 1) s p o)) ≡ counted (k + 1) t' (generated_run_from t' (entries rest (k + 1 + 1) s' p' o')))
     → IsAt count seed (k + 1) s' p' o' form' t'
 goes_on count seed k s p o s' p' o' form form' t t' h same generated step = record {
   lens = same ∙ h.lens;

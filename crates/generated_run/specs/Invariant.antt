@@ -5,7 +5,7 @@ use Rattle.doc_values.specs.Documents.{DocTree, int, rec, no_docs, more_docs}
 use Rattle.lens_core.specs.Consistency.{contents_with, list_doc}
 use Rattle.edit_session.specs.Step.{TripleTree}
 use Rattle.edit_session.specs.Run.{AnswerTree}
-use Rattle.generated_run.specs.Journal.{number_in, sum_of, summarized}
+use Rattle.generated_run.specs.Journal.{generated_number, sum_of, summarized}
 use Rattle.generated_run.specs.declared.summary.Summary.{Summary}
 use Rattle.generated_run.specs.declared.choice.Choice.{Choice}
 use Rattle.generated_run.specs.declared.choice.Choice.TheVariants.{InsertItem, InsertNumber, MoveItem, AddToNumber}
@@ -18,7 +18,7 @@ absolute (negsuc n) = n + 1
 -- the sum of the absolute values of the numbers in a list
 abbrev pub weight : List DocTree → ℕ
 weight [] = 0
-weight (d ∷ ds) = absolute (number_in d) + weight ds
+weight (d ∷ ds) = absolute (generated_number d) + weight ds
 
 -- the texts and the numbers among the items of the left document
 abbrev pub texts_of : List DocTree → List DocTree

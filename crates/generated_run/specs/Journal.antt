@@ -1,5 +1,5 @@
 -- A generated journal: its entries, made from a seed, and the summary of its run.
--- Read it from the end: `summary_of`, then `journal`, `entries` and `next_seed`.
+-- Read it from the end: `summary_of`, then `generated_journal`, `entries` and `next_seed`.
 use Rattle.std.specs.Prelude.{ℕ, ℤ, pos, ◌+ℤ◌, length, zero, suc, ◌+◌, ◌*◌, ◌/◌, ◌%◌, ◌^◌, nat_eq, nat_lt}
 use Rattle.std.specs.Prelude.{if◌then◌else◌, codes, List, [], ◌∷◌, map, Option, Some, None, option_map, Ok}
 use Rattle.texts.specs.declared.side.Side.{Side}
@@ -85,34 +85,34 @@ entries (suc n) k s p o =
     with_choice (choice k p o (drawn_from (next_seed s))) p o (λ p' o'. entries n (k + 1) (next_seed s) p' o')
 
 -- the entries of a journal, from entry 1 on
-abbrev pub journal : ℕ → ℕ → List (Side × WordTree)
-journal count seed = entries count 1 seed 0 0
+abbrev pub generated_journal : ℕ → ℕ → List (Side × WordTree)
+generated_journal count seed = entries count 1 seed 0 0
 
 -- ---- the summary
 
 -- the items of a list
-abbrev pub items_of : DocTree → List DocTree
-items_of (hold s ds) = doc_list ds
-items_of _ = []
+abbrev pub generated_items : DocTree → List DocTree
+generated_items (hold s ds) = doc_list ds
+generated_items _ = []
 
 -- the two lists of a right document: its fields are "names" and "nums", in this order
-abbrev pub names_in : DocTree → List DocTree
-names_in (rec (more_docs names (more_docs nums no_docs))) = items_of names
-names_in _ = []
+abbrev pub generated_names : DocTree → List DocTree
+generated_names (rec (more_docs names (more_docs nums no_docs))) = generated_items names
+generated_names _ = []
 
 abbrev pub nums_in : DocTree → List DocTree
-nums_in (rec (more_docs names (more_docs nums no_docs))) = items_of nums
+nums_in (rec (more_docs names (more_docs nums no_docs))) = generated_items nums
 nums_in _ = []
 
 -- the number that a document is; each document in the list of numbers is one
-abbrev pub number_in : DocTree → ℤ
-number_in (int z) = z
-number_in _ = pos 0
+abbrev pub generated_number : DocTree → ℤ
+generated_number (int z) = z
+generated_number _ = pos 0
 
 -- the sum of the numbers
 abbrev pub sum_of : List DocTree → ℤ
 sum_of [] = pos 0
-sum_of (d ∷ ds) = number_in d +ℤ sum_of ds
+sum_of (d ∷ ds) = generated_number d +ℤ sum_of ds
 
 -- how many answers accept, and how many refuse
 abbrev pub accepted_among : List (TripleTree × AnswerTree ⊥) → ℕ
@@ -128,7 +128,7 @@ abbrev pub summarized : TripleTree → List (TripleTree × AnswerTree ⊥) → S
 summarized t steps = record {
   accepted = accepted_among steps;
   refused = refused_among steps;
-  names = length (names_in (last t steps).right);
+  names = length (generated_names (last t steps).right);
   nums = length (nums_in (last t steps).right);
   sum = sum_of (nums_in (last t steps).right);
 }
@@ -141,10 +141,11 @@ entry_item e = Ok (one e)
 abbrev pub first_triple : TripleTree
 first_triple = first (left_type generated_form) (right_type generated_form) (missing generated_form)
 
-abbrev pub run_from : TripleTree → List (Side × WordTree) → Option (List (TripleTree × AnswerTree ⊥))
-run_from t es =
+abbrev pub generated_run_from : TripleTree → List (Side × WordTree) → Option (List (TripleTree × AnswerTree ⊥))
+generated_run_from t es =
     run (left_type generated_form) (right_type generated_form) (translate generated_form) t (map entry_item es)
 
 -- the summary of the journal of this count and seed
 abbrev pub summary_of : ℕ → ℕ → Option Summary
-summary_of count seed = option_map (summarized first_triple) (run_from first_triple (journal count seed))
+summary_of count seed =
+    option_map (summarized first_triple) (generated_run_from first_triple (generated_journal count seed))

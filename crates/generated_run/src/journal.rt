@@ -5,7 +5,8 @@ ghost use Rattle.doc_values.specs.Documents.{doc_tree, docs_tree, doc_list};
 ghost use Rattle.lens_forms.specs.Forms.{form_tree};
 ghost use Rattle.edit_session.specs.Views.{triple_tree};
 ghost use Rattle.generated_run.specs.Program.{generated_form};
-ghost use Rattle.generated_run.specs.Journal.{entries, first_triple, number_in, nums_in, run_from, sum_of, summary_of};
+ghost use Rattle.generated_run.specs.Journal.{entries, first_triple, generated_number, nums_in, generated_run_from};
+ghost use Rattle.generated_run.specs.Journal.{sum_of, summary_of};
 ghost use Rattle.generated_run.specs.Invariant.{absolute, IsGenerated, HasLists, counted, weight};
 
 use crate::entries::{choose, entry_of, next_seed};
@@ -78,10 +79,10 @@ fn take_entry(
     ensures generated { IfOk result (λ next. IsGenerated (before + 1) next.names next.nums
         (triple_tree session.new.triple)) }
     ensures counted { IfOk result (λ next. (rest : ℕ)
-        → counted before (triple_tree session.old.triple) (run_from (triple_tree session.old.triple)
+        → counted before (triple_tree session.old.triple) (generated_run_from (triple_tree session.old.triple)
         (entries (suc rest) (before + 1) progress.seed progress.names progress.nums))
         ≡ counted (before + 1) (triple_tree session.new.triple)
-        (run_from (triple_tree session.new.triple)
+        (generated_run_from (triple_tree session.new.triple)
         (entries rest (before + 1 + 1) next.seed next.names next.nums))) }
 {
     let number = before + 1;
@@ -127,7 +128,7 @@ fn sum_of(nums: &Docs) -> i64
 
 // The number that a document is; 0 where it is not a number.
 fn number_in(doc: &Doc) -> i64
-    ensures { result ≡ number_in (doc_tree doc.now) }
+    ensures { result ≡ generated_number (doc_tree doc.now) }
 {
     match doc {
         Doc::Int(number) => *number,

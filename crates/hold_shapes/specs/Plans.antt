@@ -13,7 +13,7 @@ use Rattle.hold_shapes.specs.declared.edit.ShapeEdit.{ShapeEdit}
 use Rattle.hold_shapes.specs.declared.edit.ShapeEdit.TheVariants.{Ins, Del, MoveItem, Reorder, PutKey, DropKey}
 use Rattle.hold_shapes.specs.declared.edit.ShapeEdit.TheVariants.{RenameKey, Graft, Prune, Shift, Hang}
 use Rattle.hold_shapes.specs.Causes.{PlanCause, Kind, Place, Range, Present, Length, Deep}
-use Rattle.texts.specs.Keys.{key_place, rank}
+use Rattle.texts.specs.Keys.{key_place, key_rank}
 use Rattle.hold_shapes.specs.Trees.{node, children, child, end_of}
 use Rattle.hold_shapes.specs.declared.lists.TheConstants.{MOST_ITEMS}
 
@@ -65,7 +65,7 @@ at_place (Some p) go = go p
 
 -- the keys and their origins, with one more key among them in byte order
 abbrev pub add_key : List (List ℕ) → List Origin → List ℕ → Origin → Planned
-add_key ks from k o = Ok (KeyedOf (insert ks (rank k ks) k), insert from (rank k ks) o)
+add_key ks from k o = Ok (KeyedOf (insert ks (key_rank k ks) k), insert from (key_rank k ks) o)
 
 -- a new key k, if it is not a key already
 abbrev pub put_key : List (List ℕ) → List ℕ → Option ℕ → Planned

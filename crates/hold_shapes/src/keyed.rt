@@ -4,7 +4,7 @@ ghost use Rattle.std.specs.List.{insert, remove};
 ghost use Rattle.hold_shapes.specs.declared.shape.Shape.TheVariants.{Keyed as KeyedOf};
 ghost use Rattle.hold_shapes.specs.declared.edit.ShapeEdit.TheVariants.{PutKey, DropKey, RenameKey};
 ghost use Rattle.hold_shapes.specs.declared.origins.Origin.TheVariants.{Old};
-ghost use Rattle.texts.specs.Keys.{key_place, is_rising, rank};
+ghost use Rattle.texts.specs.Keys.{key_place, is_rising, key_rank};
 ghost use Rattle.hold_shapes.specs.declared.plan.PlanFault.TheVariants.{NoMemory};
 ghost use Rattle.hold_shapes.specs.Causes.{IsRefusal};
 ghost use Rattle.hold_shapes.specs.Plans.{plan_keyed, add_key, rename_to, old_places};
@@ -30,7 +30,7 @@ fn with_key(
 ) -> Result<Plan<KeyedShape>, PlanFault>
     requires rising { is_rising names.now ≡ true }
     requires absent { key_place name.now names.now ≡ None }
-    requires place { at ≡ rank name.now names.now }
+    requires place { at ≡ key_rank name.now names.now }
     requires within { at ≤ length names.now }
     ensures { MatchResult result
         (λ p. (p.shape ≡ insert names.now at name.now) × (p.from ≡ from))

@@ -1,7 +1,7 @@
 //! Keys in byte order: a test of the order, the place of a key, and the place for a new one.
 ghost use Rattle.std.specs.Prelude.{◌≡◌, ◌↔◌, ◌<◌, ◌≤◌, length, slice_index_or, Some, None, IfSome, IsTrue, true};
 ghost use Rattle.std.specs.Prelude.{false};
-ghost use Rattle.texts.specs.Keys.{is_before, is_rising, key_place, rank};
+ghost use Rattle.texts.specs.Keys.{is_before, is_rising, key_place, key_rank};
 
 use shared_lists::{Hint, SharedList, Test};
 use std::cmp::Ordering;
@@ -54,7 +54,7 @@ pub(crate) fn place(names: &SharedList<Name>, name: &Name) -> Option<u64>
 #[tactic(auto, using(texts::proofs::KeyOrder::search_rules))]
 pub(crate) fn is_at(names: &SharedList<Name>, at: usize, name: &Name) -> bool
     requires rising { is_rising names.now ≡ true }
-    requires place { at ≡ rank name.now names.now }
+    requires place { at ≡ key_rank name.now names.now }
     ensures there { result ≡ true → key_place name.now names.now ≡ Some at }
     ensures absent { result ≡ false → key_place name.now names.now ≡ None }
     ensures within { result ≡ true → at < length names.now }
@@ -94,7 +94,7 @@ impl<'a> Test<Name> for BeforeName<'a> {
 /// few.
 pub(crate) fn rank(names: &SharedList<Name>, name: &Name) -> usize
     requires { is_rising names.now ≡ true }
-    ensures value { result ≡ rank name.now names.now }
+    ensures value { result ≡ key_rank name.now names.now }
     ensures within { result ≤ length names.now }
 {
     let hint = name.hint();

@@ -19,7 +19,7 @@ use Rattle.script_input.specs.Taking.{TakenInput}
 use Rattle.script_input.specs.declared.script.ProgramText.{ProgramText}
 use Rattle.lens_flat.specs.declared.flat.ReadyForm.{ReadyForm}
 use Rattle.hub_run.specs.RunStates.{forms_of_lenses}
-use Rattle.hub_run.specs.FoundLenses.{HasLeft, HasRefusalLine, IsRefused}
+use Rattle.hub_run.specs.FoundLenses.{HasLeft, HasRefusalLine, IsRefusedHub}
 use Rattle.hub_run.specs.Lenses.{HubRefusal, too_many_views, first_left, form_of_view}
 use Rattle.hub_run.specs.PiecePrograms.{IsViewOf}
 use Rattle.hub_run.specs.declared.pieces.TheConstants.{MOST_VIEWS}
@@ -80,11 +80,11 @@ module _ (forms : List FormTree) (part : List ℕ) (n : ℕ) (count : n ≡ leng
 
   -- what is found of the view, whose left type is to be that of the first of these
   pub view_found : (ty : TyTree) (r : Result Accepted HubRefused) → n < MOST_VIEWS → first_left forms ≡ Some ty
-      → MatchResult r (λ a. IsViewOf (Some ty) n part (program_tree a.program) (form_tree a.lens)) (IsRefused (form_of_view (Some ty) n part))
-      → MatchResult r (λ a. IsAcceptedView forms part (program_tree a.program) (form_tree a.lens)) (IsRefused (added_form forms part))
+      → MatchResult r (λ a. IsViewOf (Some ty) n part (program_tree a.program) (form_tree a.lens)) (IsRefusedHub (form_of_view (Some ty) n part))
+      → MatchResult r (λ a. IsAcceptedView forms part (program_tree a.program) (form_tree a.lens)) (IsRefusedHub (added_form forms part))
   view_found ty (Ok a) room first h = record { read = h.read; has_lens = with_room room ∙ ap (λ (o : Option TyTree). form_of_view o n part) first ∙ h.has_lens }
   view_found ty (Err refused) room first h =
-      subst (λ o. IsRefused o refused) (sym (with_room room ∙ ap (λ (o : Option TyTree). form_of_view o n part) first)) h
+      subst (λ o. IsRefusedHub o refused) (sym (with_room room ∙ ap (λ (o : Option TyTree). form_of_view o n part) first)) h
 
 -- the left type of the first lens
 pub first_of : (ls : List ReadyForm) (l : ReadyForm) → 0 < length ls → l ≡ get_or ls 0 l → first_left (forms_of_lenses ls) ≡ Some (left_type (form_tree l.typed))
@@ -97,7 +97,7 @@ module _ {S : Type 0} (source : OfSource.Ghosts S) (s s' : S) (forms : List Form
   pub alone_view : (p : ProgramTree) (l : FormTree) → ((part : List ℕ) → HoldsPart program part → IsAcceptedView forms part p l) → ReadsView source s s' forms p l
   alone_view p l accepted = record { bytes = r.bytes; took = r.whole.consumes; read = r.whole.at_end; within = r.whole.within; accepted = accepted (program_part r.bytes) r.holds }
 
-  pub alone_unread : (refused : HubRefused) → ((part : List ℕ) → HoldsPart program part → IsRefused (added_form forms part) refused) → HasRefusalLine refused → ReadsRefusedView source s s' forms refused
+  pub alone_unread : (refused : HubRefused) → ((part : List ℕ) → HoldsPart program part → IsRefusedHub (added_form forms part) refused) → HasRefusalLine refused → ReadsRefusedView source s s' forms refused
   alone_unread refused is known = record {
     bytes = r.bytes;
     took = r.whole.consumes;
@@ -110,13 +110,13 @@ module _ {S : Type 0} (source : OfSource.Ghosts S) (s s' : S) (forms : List Form
 -- ---- a script with a separator
 
 module _ {S : Type 0} (source : OfSource.Ghosts S) (s mid : S) (forms : List FormTree) (program : ProgramText) (input : TakenInput) (r : ReadsPart source s mid HoldsPart program input) where
-  pub part_unread : (refused : HubRefused) → ((part : List ℕ) → HoldsPart program part → IsRefused (added_form forms part) refused) → HasRefusalLine refused → ReadsRefusedView source s mid forms refused
+  pub part_unread : (refused : HubRefused) → ((part : List ℕ) → HoldsPart program part → IsRefusedHub (added_form forms part) refused) → HasRefusalLine refused → ReadsRefusedView source s mid forms refused
   part_unread refused is known = record {
     bytes = r.front ++ r.rest;
     took = r.taken.consumes;
     at_most = r.taken.few;
     whole = inl (has_part source s mid program input r);
-    is = subst (λ part. IsRefused (added_form forms part) refused) (sym (r.head.is_part r.rest)) (is r.part r.holds);
+    is = subst (λ part. IsRefusedHub (added_form forms part) refused) (sym (r.head.is_part r.rest)) (is r.part r.holds);
     known = known;
   }
 

@@ -1,4 +1,5 @@
--- The whole command `add`: what it comes to, by its status. Read it from the end: `IsAddCause`, `IsSafeAdd`, `AddsView`,
+-- The whole command `add`: what it comes to, by its status. Read it from the end: `IsAddCause`, `IsSafeAdd`,
+-- `AddsView`,
 -- `AddEnds`, its four cases, then `IsViewMore`.
 use Rattle.std.specs.Prelude.{◌≡◌, ◌⊎◌, ℕ, ◌+◌, ◌≤◌, List, [], ◌∷◌, ◌++◌, length, Some, None, Ok, IfSome}
 use Rattle.lens_io.specs.Calls.{Took, IsRead, IsUnasked, Gave}
@@ -17,10 +18,11 @@ use Rattle.script_input.specs.declared.limits.TheConstants.{MOST_BYTES}
 use Rattle.view_hub.specs.Hubs.{HubTree}
 use Rattle.view_hub.specs.Laws.{IsHub}
 use Rattle.hub_run.specs.FormLenses.{form_lens}
-use Rattle.hub_run.specs.Runs.{HubState, state_text}
+use Rattle.hub_run.specs.Runs.{HubState, hub_state_text}
 use Rattle.hub_records.specs.HubRecords.{tree_of_added}
 use Rattle.hub_records.specs.HubStands.{view_more}
-use Rattle.hub_session.specs.HubStates.{stands_for}
+use Rattle.hub_session.specs.HubStates.{hub_stands_for}
+use Rattle.store_run.specs.Devices.{Devices}
 use Rattle.store_run.specs.MoreCall.{Exits, IsSafeMore, MoreEnds}
 use Rattle.store_run.specs.MoreCauses.{OneHasNoRoom}
 use Rattle.store_new.specs.NewEnds.{GivesLine, RefusesAtOnce, StopsAfter}
@@ -36,8 +38,8 @@ abbrev pub added_payload : ProgramTree → List ℕ
 added_payload program = compact_text (tree_of_added (canonical program))
 
 -- the state with one view more, of this form, and this hub
-abbrev pub with_view : HubState → FormTree → HubTree → HubState
-with_view state form hub = record { forms = state.forms ++ form ∷ []; hub = hub }
+abbrev pub state_with_view : HubState → FormTree → HubTree → HubState
+state_with_view state form hub = record { forms = state.forms ++ form ∷ []; hub = hub }
 
 -- For the helpers: the payload of the program, which reads as its tree, and the state lines of the hub with its view.
 pub record IsViewText (state : HubState) (program : ProgramTree) (form : FormTree) (payload lines : List ℕ) : Type 0
@@ -46,7 +48,7 @@ pub record IsViewText (state : HubState) (program : ProgramTree) (form : FormTre
     pub made : view_more form state.hub ≡ Some hub
     pub is : payload ≡ added_payload program
     pub reads : tree_of_text payload ≡ Some (tree_of_added (canonical program))
-    pub written : lines ≡ state_text (with_view state form hub)
+    pub written : lines ≡ hub_state_text (state_with_view state form hub)
 
 -- The hub with the view of this form behind the others is in step, and the payloads with that of the program behind
 -- them represent it.
@@ -54,7 +56,7 @@ pub record IsViewMore (before : List (List ℕ)) (state : HubState) (program : P
     (hub : HubTree) : Type 0 where
   pub made : view_more form state.hub ≡ Some hub
   pub in_step : IsHub form_lens (state.forms ++ form ∷ []) hub
-  pub stand : stands_for (before ++ added_payload program ∷ []) ≡ Ok (with_view state form hub, None)
+  pub stand : hub_stands_for (before ++ added_payload program ∷ []) ≡ Ok (state_with_view state form hub, None)
 
 module _ {K D : Type 0} (sink : OfSink.Ghosts K) (disk : OfDisk.Ghosts D) (old new : K × D) where
   -- For the helpers: the end of the call behind a program that is accepted, over a log that stands.
@@ -72,55 +74,55 @@ module _ {K D : Type 0} (sink : OfSink.Ghosts K) (disk : OfDisk.Ghosts D) (old n
       ⊎ (status ≡ ending.NoMemory) × (new.1 ≡ old.1) × Gave sink old.0 new.0 []
 
 module _ {S K D : Type 0} (source : OfSource.Ghosts S) (sink : OfSink.Ghosts K) (disk : OfDisk.Ghosts D)
-    (old new : S × K × D) (before : List (List ℕ)) (state : HubState) (status : Status) where
+    (old new : Devices S K D) (before : List (List ℕ)) (state : HubState) (status : Status) where
   -- each image that a crash now may leave holds the payloads from before
   abbrev pub StillHolds : Type 0
-  StillHolds = (c : List ℕ) → disk.images new.2 c → HoldsPayloads before c
+  StillHolds = (c : List ℕ) → disk.images new.disk c → HoldsPayloads before c
 
   -- The store was not opened: the disk failed, or memory ran out. The source was not called, and nothing was written.
   pub record FailsFirst : Type 0 where
-    pub unasked : IsUnasked source old.0 new.0
-    pub opens : IsOpening disk old.2 new.2
-    pub fails : FailsUnopened sink disk (old.1, old.2) (new.1, new.2) status
+    pub unasked : IsUnasked source old.source new.source
+    pub opens : IsOpening disk old.disk new.disk
+    pub fails : FailsUnopened sink disk (old.sink, old.disk) (new.sink, new.disk) status
     pub holds : (status ≡ ending.DiskFault) ⊎ StillHolds
 
   -- The script was not read to its end, or memory ran out. Nothing was written.
   pub record StopsReading : Type 0 where
     pub bytes : List ℕ
-    pub took : Took source old.0 new.0 bytes
+    pub took : Took source old.source new.source bytes
     pub at_most : length bytes ≤ MOST_BYTES + 1
     pub stops : StopsAfter (view_part state.forms) bytes status
     pub no_disk : status ≡ ending.DiskFault → ⊥
-    pub opens : IsOpening disk old.2 new.2
+    pub opens : IsOpening disk old.disk new.disk
     pub holds : StillHolds
-    pub given : Gave sink old.1 new.1 []
+    pub given : Gave sink old.sink new.sink []
 
   -- The program part is whole and refused. The line of that refusal was written, and nothing to the disk.
   pub record RefusesView : Type 0 where
     pub bytes : List ℕ
-    pub took : Took source old.0 new.0 bytes
+    pub took : Took source old.source new.source bytes
     pub at_most : length bytes ≤ MOST_BYTES + 1
     pub line : List ℕ
-    pub refused : RefusesPart (view_part state.forms) source old.0 new.0 bytes line
-    pub opens : IsOpening disk old.2 new.2
+    pub refused : RefusesPart (view_part state.forms) source old.source new.source bytes line
+    pub opens : IsOpening disk old.disk new.disk
     pub holds : StillHolds
-    pub given : GivesLine sink old.1 new.1 line ending.ProgramRefused status
+    pub given : GivesLine sink old.sink new.sink line ending.ProgramRefused status
 
   -- The script was read to its end, and its program is accepted. From there the payload was stored and the state lines
   -- of the hub with its view were written, or the call was stopped.
   pub record StoresView : Type 0 where
     pub bytes : List ℕ
-    pub took : Took source old.0 new.0 bytes
-    pub read : IsRead source old.0 new.0
+    pub took : Took source old.source new.source bytes
+    pub read : IsRead source old.source new.source
     pub within : length bytes ≤ MOST_BYTES
     pub program : ProgramTree
     pub form : FormTree
     pub accepted : IsAcceptedView state.forms (program_part bytes) program form
     pub hub : HubTree
     pub more : IsViewMore before state program form hub
-    pub exits : Exits sink disk (old.1, old.2) (new.1, new.2) before (added_payload program)
-        (state_text (with_view state form hub)) status
-    pub safe : IsSafeMore disk old.2 new.2 before (added_payload program)
+    pub exits : Exits sink disk (old.sink, old.disk) (new.sink, new.disk) before (added_payload program)
+        (hub_state_text (state_with_view state form hub)) status
+    pub safe : IsSafeMore disk old.disk new.disk before (added_payload program)
 
   -- how the call ends over a store
   abbrev pub AddEnds : Type 0
@@ -129,18 +131,18 @@ module _ {S K D : Type 0} (source : OfSource.Ghosts S) (sink : OfSink.Ghosts K) 
 -- After Done the script was read to its end, the payload of its program is stored behind those from before, and the
 -- state lines of the hub with its view were written.
 pub record AddsView {S K D : Type 0} (source : OfSource.Ghosts S) (sink : OfSink.Ghosts K) (disk : OfDisk.Ghosts D)
-    (old : S × K) (new : S × K × D) (before : List (List ℕ)) (state : HubState) : Type 0 where
+    (old : S × K) (new : Devices S K D) (before : List (List ℕ)) (state : HubState) : Type 0 where
   pub bytes : List ℕ
-  pub took : Took source old.0 new.0 bytes
-  pub read : IsRead source old.0 new.0
+  pub took : Took source old.source new.source bytes
+  pub read : IsRead source old.source new.source
   pub within : length bytes ≤ MOST_BYTES
   pub program : ProgramTree
   pub form : FormTree
   pub accepted : IsAcceptedView state.forms (program_part bytes) program form
   pub hub : HubTree
   pub more : IsViewMore before state program form hub
-  pub given : Gave sink old.1 new.1 (state_text (with_view state form hub))
-  pub kept : IfSome (disk.content new.2) (HoldsPayloads (before ++ added_payload program ∷ []))
+  pub given : Gave sink old.sink new.sink (hub_state_text (state_with_view state form hub))
+  pub kept : IfSome (disk.content new.disk) (HoldsPayloads (before ++ added_payload program ∷ []))
 
 -- an image holds the payloads from before; or these and the payload of a program, and these represent the hub with the
 -- view of that program

@@ -7,7 +7,7 @@ use Rattle.program_terms.specs.Terms.{ProgramTree}
 use Rattle.script_input.specs.Coming.{IsWhole}
 use Rattle.script_input.specs.Lines.{program_part}
 use Rattle.script_input.specs.declared.limits.TheConstants.{MOST_BYTES}
-use Rattle.hub_run.specs.FoundLenses.{HasRefusalLine, IsRefused}
+use Rattle.hub_run.specs.FoundLenses.{HasRefusalLine, IsRefusedHub}
 use Rattle.hub_run.specs.declared.views.HubRefused.{HubRefused}
 use Rattle.store_new.specs.ScriptReading.{ReadsFront}
 use Rattle.hub_add.specs.AddedView.{IsAcceptedView, added_form, view_part}
@@ -29,7 +29,7 @@ module _ {S : Type 0} (source : OfSource.Ghosts S) (old new : S) (forms : List F
     pub took : Took source old new bytes
     pub at_most : length bytes ≤ MOST_BYTES + 1
     pub whole : IsWhole source old new bytes
-    pub is : IsRefused (added_form forms (program_part bytes)) refused
+    pub is : IsRefusedHub (added_form forms (program_part bytes)) refused
     pub known : HasRefusalLine refused
 
   -- why a script was not read to its end, or has no view

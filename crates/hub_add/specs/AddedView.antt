@@ -3,7 +3,7 @@ use Rattle.std.specs.Prelude.{◌≡◌, ℕ, List, length, nat_lt, if◌then◌
 use Rattle.lens_forms.specs.Forms.{FormTree}
 use Rattle.lens_syntax.specs.Programs.{bounded}
 use Rattle.program_terms.specs.Terms.{ProgramTree}
-use Rattle.hub_run.specs.Lenses.{HubRefusal, too_many_views, form_of_view, first_left, refusal_line}
+use Rattle.hub_run.specs.Lenses.{HubRefusal, too_many_views, form_of_view, first_left, hub_refusal_line}
 use Rattle.hub_run.specs.declared.pieces.TheConstants.{MOST_VIEWS}
 use Rattle.store_new.specs.Command.{PartMeaning}
 
@@ -26,5 +26,5 @@ view_part forms = record {
   Accepted = FormTree;
   Refusal = HubRefusal;
   accepted = added_form forms;
-  refusal_line = refusal_line;
+  refusal_line = hub_refusal_line;
 }

@@ -1,17 +1,18 @@
 //! The command `add`, from its first call of the disk on.
 ghost use Rattle.std.specs.Prelude.{◌≡◌, ◌⊎◌, List, ℕ, IfOk, Ok, None, true};
-ghost use Rattle.command_ends.specs.Statuses.{IsAmong, init_statuses, quiet_statuses};
+ghost use Rattle.command_ends.specs.Statuses.{IsStatusAmong, init_statuses, quiet_statuses};
 ghost use Rattle.lens_io.specs.Calls.{IsUnasked, SourceFailed, SinkFailed, DiskFailed};
 ghost use Rattle.lens_forms.specs.Forms.{form_tree};
 ghost use Rattle.program_terms.specs.Views.{program_tree};
+ghost use Rattle.store_run.specs.Devices.{devices_of};
 ghost use Rattle.store_run.specs.ApplyCall.{IsUnopened};
 ghost use Rattle.store_run.specs.Effects.{StandsOn};
 ghost use Rattle.store_run.specs.Refusals.{IsUnwritten, EndsRefused};
 ghost use Rattle.store_run.specs.Rooms.{TakesTooMany, most_bytes};
 ghost use Rattle.store_run.specs.Stores.{Store, RefusedStore};
-ghost use Rattle.hub_run.specs.RunStates.{forms_of_lenses, state_of};
+ghost use Rattle.hub_run.specs.RunStates.{forms_of_lenses, hub_state_of};
 ghost use Rattle.hub_records.specs.HubLenses.{joins};
-ghost use Rattle.hub_session.specs.HubStates.{stands_for};
+ghost use Rattle.hub_session.specs.HubStates.{hub_stands_for};
 ghost use Rattle.hub_session.specs.contracts.instance.HubSessionStoredSession.TheImpl.{ghosts as hubs};
 ghost use Rattle.hub_add.specs.AddCall.{AddEnds, AddsView, EndsAdded, EndsWhole, IsAddCause, IsSafeAdd, IsViewText};
 ghost use Rattle.hub_add.specs.AddCall.{RefusesViewAtOnce, ViewHasNoRoom};
@@ -57,14 +58,15 @@ pub fn add<S: Source, K: Sink, D: Disk>(
     disk: &mut D,
 ) -> Status
     ensures adds { (store : Store D.Disk hubs disk.old) → result ≡ Status.Done
-        → AddsView S.Source K.Sink D.Disk (source.old, sink.old) (source.new, sink.new, disk.new)
+        → AddsView S.Source K.Sink D.Disk (source.old, sink.old) (devices_of source.new sink.new disk.new)
         store.payloads store.state }
     ensures stops { (store : Store D.Disk hubs disk.old)
-        → AddEnds S.Source K.Sink D.Disk (source.old, sink.old, disk.old) (source.new, sink.new, disk.new)
+        → AddEnds S.Source K.Sink D.Disk (devices_of source.old sink.old disk.old)
+        (devices_of source.new sink.new disk.new)
         store.payloads store.state result }
     ensures survives { (store : Store D.Disk hubs disk.old)
         → (result ≡ Status.DiskFault) × IsUnopened S.Source K.Sink D.Disk
-        (source.old, sink.old, disk.old) (source.new, sink.new, disk.new)
+        (devices_of source.old sink.old disk.old) (devices_of source.new sink.new disk.new)
         ⊎ IsSafeAdd D.Disk disk.old disk.new store.payloads store.state }
     ensures at_once { (store : Store D.Disk hubs disk.old)
         → RefusesViewAtOnce S.Source source.old source.new store.state result }
@@ -81,7 +83,7 @@ pub fn add<S: Source, K: Sink, D: Disk>(
     ensures refused { (other : RefusedStore D.Disk hubs disk.old)
         → IsUnwritten D.Disk disk.old disk.new × IsUnasked S.Source source.old source.new
         × EndsRefused K.Sink D.Disk (sink.old, disk.old) (sink.new, disk.new) other.reason result }
-    ensures statuses { IsAmong init_statuses result }
+    ensures statuses { IsStatusAmong init_statuses result }
     ensures source_fault { result ≡ Status.SourceFault → SourceFailed S.Source source.old source.new }
     ensures sink_fault { result ≡ Status.SinkFault → SinkFailed K.Sink sink.old sink.new }
     ensures disk_fault { result ≡ Status.DiskFault → DiskFailed D.Disk disk.old disk.new }
@@ -107,10 +109,11 @@ fn add_opened<S: Source, K: Sink, D: Disk>(
 ) -> Status
     requires stands { (base : List (List ℕ)) × StandsOn D.Disk disk.old log.old base }
     ensures ends { (before : List (List ℕ)) → StandsOn D.Disk disk.old log.old before
-        → stands_for before ≡ Ok (state_of session.old.hub, None)
-        → AddEnds S.Source K.Sink D.Disk (source.old, sink.old, disk.old) (source.new, sink.new, disk.new)
-        before (state_of session.old.hub) result }
-    ensures statuses { IsAmong init_statuses result }
+        → hub_stands_for before ≡ Ok (hub_state_of session.old.hub, None)
+        → AddEnds S.Source K.Sink D.Disk (devices_of source.old sink.old disk.old)
+        (devices_of source.new sink.new disk.new)
+        before (hub_state_of session.old.hub) result }
+    ensures statuses { IsStatusAmong init_statuses result }
     ensures source_fault { result ≡ Status.SourceFault → SourceFailed S.Source source.old source.new }
     ensures sink_fault { result ≡ Status.SinkFault → SinkFailed K.Sink sink.old sink.new }
     ensures disk_fault { result ≡ Status.DiskFault → DiskFailed D.Disk disk.old disk.new }
@@ -136,9 +139,9 @@ fn add_program<K: Sink, D: Disk>(
     requires stands { (base : List (List ℕ)) × StandsOn D.Disk disk.old log.old base }
     requires joins { joins (forms_of_lenses session.old.hub.lenses) (form_tree accepted.now.lens) ≡ true }
     ensures ends { (before : List (List ℕ)) → StandsOn D.Disk disk.old log.old before
-        → EndsAdded K.Sink D.Disk (sink.old, disk.old) (sink.new, disk.new) before (state_of session.old.hub)
+        → EndsAdded K.Sink D.Disk (sink.old, disk.old) (sink.new, disk.new) before (hub_state_of session.old.hub)
         (program_tree accepted.now.program) (form_tree accepted.now.lens) result }
-    ensures statuses { IsAmong quiet_statuses result }
+    ensures statuses { IsStatusAmong quiet_statuses result }
     ensures sink_fault { result ≡ Status.SinkFault → SinkFailed K.Sink sink.old sink.new }
     ensures disk_fault { result ≡ Status.DiskFault → DiskFailed D.Disk disk.old disk.new }
 {
@@ -155,7 +158,7 @@ fn view_text(
     accepted: &Accepted,
 ) -> Result<MoreText, AllocError>
     requires joins { joins (forms_of_lenses session.old.hub.lenses) (form_tree accepted.now.lens) ≡ true }
-    ensures { IfOk result (λ more. IsViewText (state_of session.old.hub) (program_tree accepted.now.program)
+    ensures { IfOk result (λ more. IsViewText (hub_state_of session.old.hub) (program_tree accepted.now.program)
         (form_tree accepted.now.lens) more.payload more.lines) }
 {
     session.add(alloc, &accepted.lens)?;

@@ -4,7 +4,7 @@ ghost use Rattle.lens_forms.specs.Forms.{form_tree};
 ghost use Rattle.lens_io.specs.Calls.{SourceFailed};
 ghost use Rattle.program_terms.specs.Views.{program_tree};
 ghost use Rattle.script_input.specs.Parts.{HoldsPart};
-ghost use Rattle.hub_run.specs.FoundLenses.{HasRefusalLine, IsRefused};
+ghost use Rattle.hub_run.specs.FoundLenses.{HasRefusalLine, IsRefusedHub};
 ghost use Rattle.hub_run.specs.RunStates.{forms_of_lenses};
 ghost use Rattle.hub_add.specs.AddedView.{IsAcceptedView, added_form};
 ghost use Rattle.hub_add.specs.AddReading.{IsUnreadView, ReadsView};
@@ -59,7 +59,7 @@ fn view_of_part(alloc: Global, lenses: &[Flat], part: &ProgramText) -> Result<Ac
     requires some { 0 < length lenses.now }
     ensures accepted { (bytes : List ℕ) → HoldsPart part.now bytes → MatchResult result
         (λ a. IsAcceptedView (forms_of_lenses lenses.now) bytes (program_tree a.program) (form_tree a.lens))
-        (IsRefused (added_form (forms_of_lenses lenses.now) bytes)) }
+        (IsRefusedHub (added_form (forms_of_lenses lenses.now) bytes)) }
     ensures known { IfErr result HasRefusalLine }
 {
     if lenses.len() >= MOST_VIEWS {

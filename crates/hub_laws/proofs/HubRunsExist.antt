@@ -7,17 +7,17 @@ use Rattle.edit_journal.specs.declared.line.Line.{Line}
 use Rattle.edit_module.specs.Words.{WordTree}
 use Rattle.lens_forms.specs.Forms.{FormTree}
 use Rattle.view_hub.specs.Groups.{GroupStepped, with_words, then_others, step_group}
-use Rattle.view_hub.specs.Hubs.{HubTree, CarriedTree, Place, Refusal, step}
+use Rattle.view_hub.specs.Hubs.{HubTree, CarriedTree, Place, ViewRefusal, step}
 use Rattle.hub_run.specs.Answers.{HubAnswerTree, carried}
 use Rattle.hub_run.specs.FormLenses.{form_lens}
 use Rattle.hub_run.specs.FoundLenses.{AllTyped}
-use Rattle.hub_run.specs.RunStates.{state_of}
+use Rattle.hub_run.specs.RunStates.{hub_state_of}
 use Rattle.hub_run.specs.Runs.{HubState, answer_of}
 use Rattle.hub_run.proofs.FormsInStep.{FormHub, forms_stay}
-use Rattle.hub_records.specs.HubChanges.{one, group, change_of_line}
+use Rattle.hub_records.specs.HubChanges.{one, group, hub_change_of_line}
 use Rattle.hub_session.specs.AnswerSteps.{Stays, Steps, kinds}
-use Rattle.hub_session.specs.HubAnswers.{HubItem, change_text, refused_with, edit_answered, group_answered, answer_item, answer}
-use Rattle.hub_session.specs.HubStates.{stands_for, stored_hub}
+use Rattle.hub_session.specs.HubAnswers.{HubJournalItem, hub_change_text, refused_with, edit_answered, group_answered, hub_answer_item, stored_hub_answer}
+use Rattle.hub_session.specs.HubStates.{hub_stands_for, stored_hub}
 use Rattle.hub_session.specs.declared.session.HubSession.{HubSession}
 use Rattle.hub_session.proofs.RunsStay.{IsSoundState, stored_sound, answer_stays, run_stays}
 use Rattle.store_run.specs.StoreRuns.{kept_of, last, run}
@@ -30,10 +30,10 @@ use Rattle.hub_laws.specs.HubRuns.{IsHubJournalRun, change_before, line_changes}
 
 module _ (forms : List FormTree) (all : AllTyped forms) where
   -- the hub steps, and is in step again if the edit is accepted
-  abbrev EditGoes : Option (Result (HubTree × CarriedTree) Refusal) → Type 0
-  EditGoes o = (r : Result (HubTree × CarriedTree) Refusal) × (o ≡ Some r) × ((s : HubTree × CarriedTree) → r ≡ Ok s → FormHub forms s.0)
+  abbrev EditGoes : Option (Result (HubTree × CarriedTree) ViewRefusal) → Type 0
+  EditGoes o = (r : Result (HubTree × CarriedTree) ViewRefusal) × (o ≡ Some r) × ((s : HubTree × CarriedTree) → r ≡ Ok s → FormHub forms s.0)
 
-  taken_goes : (h : HubTree) (o : Option (Result (HubTree × CarriedTree) Refusal)) → (t : HubTree × HubAnswerTree) × (option_map (answer_of h) o ≡ Some t) × FormHub forms t.0 → EditGoes o
+  taken_goes : (h : HubTree) (o : Option (Result (HubTree × CarriedTree) ViewRefusal)) → (t : HubTree × HubAnswerTree) × (option_map (answer_of h) o ≡ Some t) × FormHub forms t.0 → EditGoes o
   taken_goes h (Some (Ok s)) k =
       let is = k.1 in
       let pair : k.0 ≡ (s.0, carried s.1) = cc in
@@ -51,7 +51,7 @@ module _ (forms : List FormTree) (all : AllTyped forms) where
   others_go : (c : CarriedTree) (o : Option GroupStepped) → GroupGoes o → GroupGoes (option_map (with_words c) o)
   others_go c o k = (with_words c k.0, ap (option_map (with_words c)) k.1)
 
-  first_goes : (others : HubTree → Option GroupStepped) (o : Option (Result (HubTree × CarriedTree) Refusal)) (r : Result (HubTree × CarriedTree) Refusal) → o ≡ Some r
+  first_goes : (others : HubTree → Option GroupStepped) (o : Option (Result (HubTree × CarriedTree) ViewRefusal)) (r : Result (HubTree × CarriedTree) ViewRefusal) → o ≡ Some r
       → ((s : HubTree × CarriedTree) → r ≡ Ok s → GroupGoes (others s.0)) → GroupGoes (option_and_then (then_others others) o)
   first_goes others o (Ok s) is behind =
       let k = others_go s.1 (others s.0) (behind s refl) in
@@ -69,7 +69,7 @@ module _ (forms : List FormTree) (all : AllTyped forms) where
 abbrev Answered : Option (HubState × StoredAnswer) → Type 0
 Answered o = (made : HubState × StoredAnswer) × (o ≡ Some made)
 
-item_answered : (s : HubState) (n : ℕ) (item : HubItem) → IsSoundState s → Answered (answer_item s n item)
+item_answered : (s : HubState) (n : ℕ) (item : HubJournalItem) → IsSoundState s → Answered (hub_answer_item s n item)
 item_answered s n (Ok (one e)) k =
     let g = edit_goes s.forms k.0 s.hub e k.1 in
     (edit_answered s n e g.0, ap (option_map (edit_answered s n e)) g.1)
@@ -78,8 +78,8 @@ item_answered s n (Ok (group es)) k =
     (group_answered s n es g.0, ap (option_map (group_answered s n es)) g.1)
 item_answered s n (Err fault) k = (refused_with s (fault_line n fault), refl)
 
-line_answered : (s : HubState) (n : ℕ) (line : Line) → IsSoundState s → Answered (answer s n line)
-line_answered s n line k = item_answered s n (change_of_line line) k
+line_answered : (s : HubState) (n : ℕ) (line : Line) → IsSoundState s → Answered (stored_hub_answer s n line)
+line_answered s n line k = item_answered s n (hub_change_of_line line) k
 
 -- ---- all lines
 
@@ -105,13 +105,13 @@ module _ {A : Type 0} (view : A → HubState) where
   runs_on s n [] k = ([], refl)
   runs_on s n (line ∷ lines) k =
       let a = line_answered s (n + 1) line k in
-      by_blank (is_blank line) (run (stored_hub view) s n lines) (put_first (behind_first n lines) (answer s (n + 1) line)) (runs_on s n lines k)
-      (first_goes_on n lines (answer s (n + 1) line) a (runs_on a.0.0 (n + 1) lines (answer_stays s (n + 1) line a.0.0 a.0.1 k a.1)))
+      by_blank (is_blank line) (run (stored_hub view) s n lines) (put_first (behind_first n lines) (stored_hub_answer s (n + 1) line)) (runs_on s n lines k)
+      (first_goes_on n lines (stored_hub_answer s (n + 1) line) a (runs_on a.0.0 (n + 1) lines (answer_stays s (n + 1) line a.0.0 a.0.1 k a.1)))
 
   -- ---- what the run stores, and its lenses
 
   abbrev Stored : HubState → List Line → HubSteps → Type 0
-  Stored s accepted steps = (kept_of steps ≡ map change_text (line_changes accepted)) × ((last s steps).forms ≡ s.forms)
+  Stored s accepted steps = (kept_of steps ≡ map hub_change_text (line_changes accepted)) × ((last s steps).forms ≡ s.forms)
 
   abbrev lines_in : List Line → HubSteps → List Line
   lines_in lines steps = accepted_lines (stored_hub view) lines steps
@@ -120,27 +120,27 @@ module _ {A : Type 0} (view : A → HubState) where
   stays_stored : (s : HubState) (line : Line) (made : HubState × StoredAnswer) (lines : List Line) (rest : HubSteps) → Stays s made.0 made.1 → Stored made.0 (lines_in lines rest) rest
       → Stored s (first_accepted (stored_hub view) line (λ others. lines_in lines others) (made ∷ rest)) (made ∷ rest)
   stays_stored s line made lines rest r k = (
-    ap (λ p. option_to_list p ++ kept_of rest) r.none ∙ k.0 ∙ ap (λ b. map change_text (line_changes (cond b (line ∷ lines_in lines rest) (lines_in lines rest)))) (sym (ap is_some r.none)),
+    ap (λ p. option_to_list p ++ kept_of rest) r.none ∙ k.0 ∙ ap (λ b. map hub_change_text (line_changes (cond b (line ∷ lines_in lines rest) (lines_in lines rest)))) (sym (ap is_some r.none)),
     k.1 ∙ ap (λ (u : HubState). u.forms) r.same,
   )
 
-  steps_stored : (s : HubState) (line : Line) (made : HubState × StoredAnswer) (lines : List Line) (rest : HubSteps) → Steps s made.0 (change_of_line line) made.1
+  steps_stored : (s : HubState) (line : Line) (made : HubState × StoredAnswer) (lines : List Line) (rest : HubSteps) → Steps s made.0 (hub_change_of_line line) made.1
       → Stored made.0 (lines_in lines rest) rest → Stored s (first_accepted (stored_hub view) line (λ others. lines_in lines others) (made ∷ rest)) (made ∷ rest)
   steps_stored s line made lines rest r k = (
     ap (λ p. option_to_list p ++ kept_of rest) r.payload
-        ∙ ap (λ l. change_text r.change ∷ l) k.0
-        ∙ ap (λ (item : HubItem). map change_text (change_before item (line_changes (lines_in lines rest)))) (sym r.is)
-        ∙ ap (λ b. map change_text (line_changes (cond b (line ∷ lines_in lines rest) (lines_in lines rest)))) (sym (ap is_some r.payload)),
+        ∙ ap (λ l. hub_change_text r.change ∷ l) k.0
+        ∙ ap (λ (item : HubJournalItem). map hub_change_text (change_before item (line_changes (lines_in lines rest)))) (sym r.is)
+        ∙ ap (λ b. map hub_change_text (line_changes (cond b (line ∷ lines_in lines rest) (lines_in lines rest)))) (sym (ap is_some r.payload)),
     k.1 ∙ r.forms,
   )
 
-  first_stored : (s : HubState) (n : ℕ) (line : Line) (lines : List Line) (steps : HubSteps) → put_first (behind_first n lines) (answer s (n + 1) line) ≡ Some steps
+  first_stored : (s : HubState) (n : ℕ) (line : Line) (lines : List Line) (steps : HubSteps) → put_first (behind_first n lines) (stored_hub_answer s (n + 1) line) ≡ Some steps
       → ((u : HubState) (rest : HubSteps) → run (stored_hub view) u (n + 1) lines ≡ Some rest → Stored u (lines_in lines rest) rest)
       → Stored s (first_accepted (stored_hub view) line (λ others. lines_in lines others) steps) steps
-  first_stored s n line lines [] h behind = absurd (never_empty (behind_first n lines) (answer s (n + 1) line) h)
+  first_stored s n line lines [] h behind = absurd (never_empty (behind_first n lines) (stored_hub_answer s (n + 1) line) h)
   first_stored s n line lines (made ∷ rest) h behind =
-      let is = first_is (behind_first n lines) (answer s (n + 1) line) made rest h in
-      elim (kinds s (n + 1) (change_of_line line) made.0 made.1 is.0) [
+      let is = first_is (behind_first n lines) (stored_hub_answer s (n + 1) line) made rest h in
+      elim (kinds s (n + 1) (hub_change_of_line line) made.0 made.1 is.0) [
         | inl r ↦ stays_stored s line made lines rest r (behind made.0 rest is.1)
         | inr r ↦ steps_stored s line made lines rest r (behind made.0 rest is.1)
       ]
@@ -154,7 +154,7 @@ module _ {A : Type 0} (view : A → HubState) where
   run_stored s n [] [] h = (refl, refl)
   run_stored s n [] (made ∷ steps) h = absurd cc
   run_stored s n (line ∷ lines) steps h =
-      stored_by_blank (is_blank line) s (run (stored_hub view) s n lines) (put_first (behind_first n lines) (answer s (n + 1) line))
+      stored_by_blank (is_blank line) s (run (stored_hub view) s n lines) (put_first (behind_first n lines) (stored_hub_answer s (n + 1) line))
       (lines_in lines steps) (first_accepted (stored_hub view) line (λ others. lines_in lines others) steps) steps h
       (λ k. run_stored s n lines steps k)
       (λ k. first_stored s n line lines steps k (λ u rest g. run_stored u (n + 1) lines rest g))
@@ -162,9 +162,9 @@ module _ {A : Type 0} (view : A → HubState) where
 -- ---- the law
 
 abbrev of_session : HubSession → HubState
-of_session s = state_of s.hub
+of_session s = hub_state_of s.hub
 
-pub run_exists : (payloads : List (List ℕ)) (state : HubState) (version : Option (List ℕ)) → stands_for payloads ≡ Ok (state, version) → (lines : List Line) → IsHubJournalRun state lines
+pub run_exists : (payloads : List (List ℕ)) (state : HubState) (version : Option (List ℕ)) → hub_stands_for payloads ≡ Ok (state, version) → (lines : List Line) → IsHubJournalRun state lines
 run_exists payloads state version stands lines =
     let sound = stored_sound payloads state version stands in
     let goes = runs_on of_session state 0 lines sound in

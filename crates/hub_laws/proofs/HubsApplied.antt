@@ -1,6 +1,6 @@
 -- The calls of `apply` over the store of a hub are calls over a store.
 use Rattle.command_ends.specs.declared.status.Status.{Status}
-use Rattle.hub_run.specs.RunStates.{state_of}
+use Rattle.hub_run.specs.RunStates.{hub_state_of}
 use Rattle.lens_io.specs.declared.disk.Disk as OfDisk
 use Rattle.lens_io.specs.declared.sink.Sink as OfSink
 use Rattle.lens_io.specs.declared.source.Source as OfSource
@@ -11,10 +11,11 @@ use Rattle.hub_session.specs.declared.session.HubSession.{HubSession}
 use Rattle.store_laws.specs.CallsOverStores.{AppliesOver}
 use Rattle.store_laws.specs.SessionRuns.{IsNumberedAlike}
 use Rattle.hub_laws.proofs.HubNumbers.{numbered_alike}
+use Rattle.store_run.specs.Devices.{Devices}
 
 pub hubs_alike : IsNumberedAlike hubs
-hubs_alike = numbered_alike (λ (s : HubSession). state_of s.hub)
+hubs_alike = numbered_alike (λ (s : HubSession). hub_state_of s.hub)
 
-module _ {S K D : Type 0} (source : OfSource.Ghosts S) (sink : OfSink.Ghosts K) (disk : OfDisk.Ghosts D) (old new : S × K × D) (status : Status) where
-  pub applies_over : HubApplies source sink disk old new status → (store : HubStore disk old.2) → AppliesOver source sink disk hubs old new status store
+module _ {S K D : Type 0} (source : OfSource.Ghosts S) (sink : OfSink.Ghosts K) (disk : OfDisk.Ghosts D) (old new : Devices S K D) (status : Status) where
+  pub applies_over : HubApplies source sink disk old new status → (store : HubStore disk old.disk) → AppliesOver source sink disk hubs old new status store
   applies_over a store = record { continues = (a.of_store store).continues; survives = (a.of_store store).survives }

@@ -3,10 +3,10 @@ use Rattle.std.specs.Prelude.{◌≡◌, List, [], ◌∷◌, map, Result, Ok, E
 use Rattle.std.specs.List.{All}
 use Rattle.edit_journal.specs.EntryJson.{LineFault}
 use Rattle.edit_journal.specs.declared.line.Line.{Line}
-use Rattle.edithub_main.specs.HubStores.{IsStateInStep}
-use Rattle.hub_records.specs.HubChanges.{HubChangeTree, change_of_line}
+use Rattle.edithub_main.specs.HubStores.{IsHubStateInStep}
+use Rattle.hub_records.specs.HubChanges.{HubChangeTree, hub_change_of_line}
 use Rattle.hub_run.specs.Runs.{HubState}
-use Rattle.hub_session.specs.HubAnswers.{change_text}
+use Rattle.hub_session.specs.HubAnswers.{hub_change_text}
 use Rattle.hub_session.specs.contracts.instance.HubSessionStoredSession.TheImpl.{ghosts as hubs}
 use Rattle.store_run.specs.StoreRuns.{kept_of, last, run}
 use Rattle.store_run.specs.declared.session.StoredAnswer.{StoredAnswer}
@@ -20,7 +20,7 @@ change_before (Err fault) changes = changes
 -- the changes that lines are, in order
 abbrev pub line_changes : List Line → List HubChangeTree
 line_changes [] = []
-line_changes (line ∷ lines) = change_before (change_of_line line) (line_changes lines)
+line_changes (line ∷ lines) = change_before (hub_change_of_line line) (line_changes lines)
 
 -- the changes that the steps of a run over these lines accept, in order
 abbrev pub accepted_hub_changes : List Line → List (HubState × StoredAnswer) → List HubChangeTree
@@ -32,9 +32,9 @@ pub record IsHubJournalRun (state : HubState) (lines : List Line) : Type 0 where
   pub steps : List (HubState × StoredAnswer)
   pub is_run : run hubs state 0 lines ≡ Some steps
   -- each view is in its lens's consistency relation with the hub, at the start and in every state of the run
-  pub first_in_step : IsStateInStep state
-  pub in_step : All (λ step. IsStateInStep step.0) steps
+  pub first_in_step : IsHubStateInStep state
+  pub in_step : All (λ step. IsHubStateInStep step.0) steps
   -- the lenses stay
   pub lenses : (last state steps).forms ≡ state.forms
   -- the payloads are those of the changes that were accepted, in order
-  pub kept : kept_of steps ≡ map change_text (accepted_hub_changes lines steps)
+  pub kept : kept_of steps ≡ map hub_change_text (accepted_hub_changes lines steps)

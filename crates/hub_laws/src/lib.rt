@@ -14,13 +14,14 @@ ghost use Rattle.edit_journal.specs.declared.line.Line.{Line};
 ghost use Rattle.edithub_main.specs.HubApplies.{HubApplies};
 ghost use Rattle.edithub_main.specs.HubStores.{HubStore};
 ghost use Rattle.hub_run.specs.Runs.{HubState};
-ghost use Rattle.hub_session.specs.HubStates.{stands_for};
+ghost use Rattle.hub_session.specs.HubStates.{hub_stands_for};
 ghost use Rattle.hub_session.specs.contracts.instance.HubSessionStoredSession.TheImpl.{ghosts as hubs};
 ghost use Rattle.store_laws.specs.CallsOverStores.{FinishesLines, GoesOnFrom, LeavesFirstLines, StaysClosed, held_on};
 ghost use Rattle.store_laws.specs.CutStores.{EndsALine, MeetAgain};
 ghost use Rattle.store_laws.specs.SessionRuns.{IsNumberedAlike};
 ghost use Rattle.store_laws.specs.StoresOfSessions.{HeldStore};
 ghost use Rattle.hub_laws.specs.HubRuns.{IsHubJournalRun};
+ghost use Rattle.store_run.specs.Devices.{Devices};
 
 use lens_io::{Disk, Sink, Source};
 
@@ -35,7 +36,7 @@ pub fn a_hub_is_numbered_alike()
 /// those of the accepted changes in order.
 pub fn every_hub_run_exists()
     ensures { (payloads : List (List ℕ)) (state : HubState) (version : Option (List ℕ))
-        → stands_for payloads ≡ Ok (state, version) → (lines : List Line) → IsHubJournalRun state lines }
+        → hub_stands_for payloads ≡ Ok (state, version) → (lines : List Line) → IsHubJournalRun state lines }
 {}
 
 /// What a call of `apply` over the store of a hub leaves is the store and a run over the first lines of what it took.
@@ -44,13 +45,13 @@ pub fn every_hub_run_exists()
 ///   the store: such an image was possible before it.
 /// - `finishes`: the disk after a call that came to its end. The run is over all lines.
 pub fn a_hub_call_leaves_a_run<S: Source, K: Sink, D: Disk>()
-    ensures leaves { (old new : S × K × D) (status : Status) (store : HubStore D.Disk old.2) (image : List ℕ)
-        → HubApplies S.Source K.Sink D.Disk old new status → D.Disk.images new.2 image
+    ensures leaves { (old new : Devices S K D) (status : Status) (store : HubStore D.Disk old.disk) (image : List ℕ)
+        → HubApplies S.Source K.Sink D.Disk old new status → D.Disk.images new.disk image
         → StaysClosed S.Source K.Sink D.Disk hubs old new status image
-        ⊎ LeavesFirstLines S.Source K.Sink D.Disk hubs old new (held_on D.Disk hubs old.2 store) image }
-    ensures finishes { (old new : S × K × D) (status : Status) (store : HubStore D.Disk old.2)
+        ⊎ LeavesFirstLines S.Source K.Sink D.Disk hubs old new (held_on D.Disk hubs old.disk store) image }
+    ensures finishes { (old new : Devices S K D) (status : Status) (store : HubStore D.Disk old.disk)
         → HubApplies S.Source K.Sink D.Disk old new status → IsFinished status
-        → FinishesLines S.Source K.Sink D.Disk hubs old new (held_on D.Disk hubs old.2 store) }
+        → FinishesLines S.Source K.Sink D.Disk hubs old new (held_on D.Disk hubs old.disk store) }
 {}
 
 /// Two calls of `apply` over the store of a hub, the second over what the first one left, are one run over the lines
@@ -64,19 +65,19 @@ pub fn a_hub_call_leaves_a_run<S: Source, K: Sink, D: Disk>()
 ///   call that could not open the store: then the image was possible before it.
 /// - `finished`: the first call came to its end, and they are what its disk has then.
 pub fn two_hub_calls_are_one_run<S: Source, K: Sink, D: Disk>()
-    ensures crash { (old1 new1 old2 new2 : S × K × D) (status1 status2 : Status)
-        (store : HubStore D.Disk old1.2) (image : List ℕ)
-        → HubApplies S.Source K.Sink D.Disk old1 new1 status1 → D.Disk.images new1.2 image
-        → HubApplies S.Source K.Sink D.Disk old2 new2 status2 → D.Disk.content old2.2 ≡ Some image
+    ensures crash { (old1 new1 old2 new2 : Devices S K D) (status1 status2 : Status)
+        (store : HubStore D.Disk old1.disk) (image : List ℕ)
+        → HubApplies S.Source K.Sink D.Disk old1 new1 status1 → D.Disk.images new1.disk image
+        → HubApplies S.Source K.Sink D.Disk old2 new2 status2 → D.Disk.content old2.disk ≡ Some image
         → StaysClosed S.Source K.Sink D.Disk hubs old1 new1 status1 image
-        ⊎ ((first : LeavesFirstLines S.Source K.Sink D.Disk hubs old1 new1 (held_on D.Disk hubs old1.2 store) image)
+        ⊎ ((first : LeavesFirstLines S.Source K.Sink D.Disk hubs old1 new1 (held_on D.Disk hubs old1.disk store) image)
         × GoesOnFrom S.Source K.Sink D.Disk hubs old2 new2 status2 first.run) }
-    ensures finished { (old1 new1 old2 new2 : S × K × D) (status1 status2 : Status)
-        (store : HubStore D.Disk old1.2) (image : List ℕ)
+    ensures finished { (old1 new1 old2 new2 : Devices S K D) (status1 status2 : Status)
+        (store : HubStore D.Disk old1.disk) (image : List ℕ)
         → HubApplies S.Source K.Sink D.Disk old1 new1 status1 → IsFinished status1
-        → D.Disk.content new1.2 ≡ Some image
-        → HubApplies S.Source K.Sink D.Disk old2 new2 status2 → D.Disk.content old2.2 ≡ Some image
-        → (first : FinishesLines S.Source K.Sink D.Disk hubs old1 new1 (held_on D.Disk hubs old1.2 store))
+        → D.Disk.content new1.disk ≡ Some image
+        → HubApplies S.Source K.Sink D.Disk old2 new2 status2 → D.Disk.content old2.disk ≡ Some image
+        → (first : FinishesLines S.Source K.Sink D.Disk hubs old1 new1 (held_on D.Disk hubs old1.disk store))
         × GoesOnFrom S.Source K.Sink D.Disk hubs old2 new2 status2 first.run }
 {}
 
@@ -90,14 +91,14 @@ pub fn two_hub_calls_are_one_run<S: Source, K: Sink, D: Disk>()
 /// - `crash`: the second call is over an image that a crash of the first one left, and its journal goes on behind
 ///   the lines that the image has.
 pub fn a_hub_journal_may_be_cut<S: Source, K: Sink, D: Disk>()
-    ensures cut { (old1 new1 old2 new2 old3 new3 : S × K × D) (before : HeldStore hubs)
+    ensures cut { (old1 new1 old2 new2 old3 new3 : Devices S K D) (before : HeldStore hubs)
         (first : FinishesLines S.Source K.Sink D.Disk hubs old1 new1 before)
         (second : FinishesLines S.Source K.Sink D.Disk hubs old2 new2 first.after)
         (complete : FinishesLines S.Source K.Sink D.Disk hubs old3 new3 before)
         → EndsALine first.bytes → complete.bytes ≡ first.bytes ++ second.bytes
         → MeetAgain hubs before.state first.run.steps (lines_of second.bytes) second.run.steps
         second.after complete.run.steps complete.after }
-    ensures crash { (old1 new1 old2 new2 old3 new3 : S × K × D) (before : HeldStore hubs) (image : List ℕ)
+    ensures crash { (old1 new1 old2 new2 old3 new3 : Devices S K D) (before : HeldStore hubs) (image : List ℕ)
         (first : LeavesFirstLines S.Source K.Sink D.Disk hubs old1 new1 before image)
         (second : FinishesLines S.Source K.Sink D.Disk hubs old2 new2 first.after)
         (complete : FinishesLines S.Source K.Sink D.Disk hubs old3 new3 before)

@@ -16,7 +16,7 @@ use Rattle.script_input.specs.Lines.{program_part}
 use Rattle.command_ends.specs.declared.status.Status.{Status}
 use Rattle.command_ends.specs.declared.status.Status.TheVariants.{Done}
 use Rattle.hub_records.specs.HubRecords.{tree_of_programs}
-use Rattle.hub_records.specs.HubStands.{at_start, stands_for}
+use Rattle.hub_records.specs.HubStands.{hub_at_start, stands_as_hub}
 use Rattle.hub_records.specs.Views.{canonical_texts}
 use Rattle.hub_records.proofs.FirstHubs.{programs_stand}
 use Rattle.store_new.specs.NewEnds.{Ends}
@@ -32,11 +32,12 @@ use Rattle.hub_run.proofs.FoundForms.{accepted_forms}
 use Rattle.hub_new.specs.HubInit.{BeginsHub, IsFirstHub, StartsHub, hub_command, programs_payload}
 use Rattle.hub_new.specs.HubParts.{IsAcceptedHub, view_programs}
 use Rattle.hub_new.specs.HubReading.{ReadsHub}
+use Rattle.store_run.specs.Devices.{devices_of}
 
 -- the programs alone stand for the first hub
 pub programs_stand_first : (part : List ℕ) (programs : List ProgramTree) (forms : List FormTree) → IsAcceptedHub part programs forms
     → tree_of_text (programs_payload programs) ≡ Some (tree_of_programs (map canonical programs))
-    → stands_for (programs_payload programs ∷ []) ≡ Ok (at_start forms)
+    → stands_as_hub (programs_payload programs ∷ []) ≡ Ok (hub_at_start forms)
 programs_stand_first part programs forms a reads = programs_stand (programs_payload programs) (pieces part) programs forms reads a.read a.has_lenses (accepted_forms part forms a.has_lenses).1
 
 begins : (bytes : List ℕ) (programs : List ProgramTree) (forms : List FormTree) (payloads : List (List ℕ)) (lines : List ℕ) → IsAcceptedHub (program_part bytes) programs forms
@@ -47,7 +48,7 @@ begins bytes programs forms payloads lines a s = record {
   accepted = a;
   are = s.are;
   written = s.written;
-  stand = ap stands_for s.are ∙ programs_stand_first (program_part bytes) programs forms a s.reads;
+  stand = ap stands_as_hub s.are ∙ programs_stand_first (program_part bytes) programs forms a s.reads;
 }
 
 pub accepts : (bytes : List ℕ) (payloads : List (List ℕ)) (lines : List ℕ) → BeginsHub bytes payloads lines → IsAcceptedPart view_programs bytes
@@ -66,12 +67,12 @@ module _ {S K D : Type 0} (source : OfSource.Ghosts S) (sink : OfSink.Ghosts K) 
   -- the script was read, and its store was made or its making stopped
   pub begun : (programs : List ProgramTree) (forms : List FormTree) → ReadsHub source s s' programs forms
       → IfSome (disk.content d) (λ before. length before ≡ 0) → EndsPlan sink disk (k, d) (k', d') (IsFirstHub programs forms) status
-      → Ends source sink disk hub_command (s, k, d) (s', k', d') status
+      → Ends source sink disk hub_command (devices_of s k d) (devices_of s' k' d') status
   begun programs forms r empty plan =
       ends_plan source sink disk hub_command s s' k k' d d' r.bytes (IsFirstHub programs forms) status r.took r.read r.within (forms, r.accepted.has_lenses) empty
       (λ payloads lines f. begins r.bytes programs forms payloads lines r.accepted f) plan
 
-  pub starts : Ends source sink disk hub_command (s, k, d) (s', k', d') status → status ≡ Done → StartsHub source sink disk (s, k, d) (s', k', d')
+  pub starts : Ends source sink disk hub_command (devices_of s k d) (devices_of s' k' d') status → status ≡ Done → StartsHub source sink disk (devices_of s k d) (devices_of s' k' d')
   starts e is =
       let m = done source sink disk hub_command s s' k k' d d' status e is in
       let b = m.made in
@@ -86,7 +87,7 @@ module _ {S K D : Type 0} (source : OfSource.Ghosts S) (sink : OfSink.Ghosts K) 
         accepted = b.accepted;
         stored = subst (HoldsStore disk d') b.are m.ends.0;
         given = subst (Gave sink k k') b.written m.ends.1;
-        stand = subst (λ ps. stands_for ps ≡ Ok (at_start b.forms)) b.are b.stand;
+        stand = subst (λ ps. stands_as_hub ps ≡ Ok (hub_at_start b.forms)) b.are b.stand;
       }
 
 -- ---- the payload that the code makes, of the canonical texts of the code's programs

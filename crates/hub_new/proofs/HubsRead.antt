@@ -11,9 +11,9 @@ use Rattle.script_input.specs.Skipped.{SkipsRest}
 use Rattle.script_input.specs.Taking.{TakenInput}
 use Rattle.command_ends.specs.declared.status.Status.{Status}
 use Rattle.command_ends.specs.declared.status.Status.TheVariants.{SourceFault, DiskFault}
-use Rattle.hub_run.specs.FoundLenses.{HasRefusalLine, IsRefusalOf, IsRefused}
+use Rattle.hub_run.specs.FoundLenses.{HasRefusalLine, IsRefusalOf, IsRefusedHub}
 use Rattle.hub_run.specs.HubHeads.{HasPieces}
-use Rattle.hub_run.specs.Lenses.{HubRefusal, lenses_of, refusal_line}
+use Rattle.hub_run.specs.Lenses.{HubRefusal, lenses_of, hub_refusal_line}
 use Rattle.hub_run.specs.declared.pieces.Pieces.{Pieces}
 use Rattle.hub_run.specs.declared.views.HubRefused.{HubRefused}
 use Rattle.hub_run.specs.declared.views.HubRefused.TheVariants.{TooManyViews, InView, ViewsDiffer, NoMemory}
@@ -29,7 +29,7 @@ module _ {S : Type 0} (source : OfSource.Ghosts S) (s s' : S) (kept : Pieces) (r
   pub alone_hub : (ps : List ProgramTree) (ls : List FormTree) → ((part : List ℕ) → HasPieces kept part → IsAcceptedHub part ps ls) → ReadsHub source s s' ps ls
   alone_hub ps ls accepted = record { bytes = r.bytes; took = r.whole.consumes; read = r.whole.at_end; within = r.whole.within; accepted = accepted (program_part r.bytes) r.holds }
 
-  pub alone_unread : (refused : HubRefused) → ((part : List ℕ) → HasPieces kept part → IsRefused (lenses_of part) refused) → HasRefusalLine refused → ReadsRefusedHub source s s' refused
+  pub alone_unread : (refused : HubRefused) → ((part : List ℕ) → HasPieces kept part → IsRefusedHub (lenses_of part) refused) → HasRefusalLine refused → ReadsRefusedHub source s s' refused
   alone_unread refused is known = record {
     bytes = r.bytes;
     took = r.whole.consumes;
@@ -42,13 +42,13 @@ module _ {S : Type 0} (source : OfSource.Ghosts S) (s s' : S) (kept : Pieces) (r
 -- ---- a script with a separator
 
 module _ {S : Type 0} (source : OfSource.Ghosts S) (s mid : S) (kept : Pieces) (input : TakenInput) (r : ReadsPart source s mid HasPieces kept input) where
-  pub part_unread : (refused : HubRefused) → ((part : List ℕ) → HasPieces kept part → IsRefused (lenses_of part) refused) → HasRefusalLine refused → ReadsRefusedHub source s mid refused
+  pub part_unread : (refused : HubRefused) → ((part : List ℕ) → HasPieces kept part → IsRefusedHub (lenses_of part) refused) → HasRefusalLine refused → ReadsRefusedHub source s mid refused
   part_unread refused is known = record {
     bytes = r.front ++ r.rest;
     took = r.taken.consumes;
     at_most = r.taken.few;
     whole = inl (has_part source s mid kept input r);
-    is = subst (λ part. IsRefused (lenses_of part) refused) (sym (r.head.is_part r.rest)) (is r.part r.holds);
+    is = subst (λ part. IsRefusedHub (lenses_of part) refused) (sym (r.head.is_part r.rest)) (is r.part r.holds);
     known = known;
   }
 
@@ -69,7 +69,7 @@ module _ {S : Type 0} (source : OfSource.Ghosts S) (s mid : S) (kept : Pieces) (
 
 -- a program part of views, or of one view more
 abbrev pub views_part : (X : Type 0) → (List ℕ → Result X HubRefusal) → PartMeaning
-views_part X accepted = record { Accepted = X; Refusal = HubRefusal; accepted = accepted; refusal_line = refusal_line }
+views_part X accepted = record { Accepted = X; Refusal = HubRefusal; accepted = accepted; refusal_line = hub_refusal_line }
 
 module _ {X : Type 0} (accepted : List ℕ → Result X HubRefusal) {K : Type 0} (sink : OfSink.Ghosts K) (k k' : K) (outcome : Result X HubRefusal) (status : Status) where
   abbrev Refuses : Type 0
@@ -77,12 +77,12 @@ module _ {X : Type 0} (accepted : List ℕ → Result X HubRefusal) {K : Type 0}
 
   by_refusal : (refused : HubRefused) (refusal : HubRefusal) → outcome ≡ Err refusal → IsRefusalOf refused refusal → RefusesViews sink k k' refused status → Refuses
   by_refusal refused refusal is same h = elim (h.ends refusal same) [
-    | inl given ↦ inl (refusal_line refusal, record { refusal = refusal; is = is; is_line = refl }, given)
+    | inl given ↦ inl (hub_refusal_line refusal, record { refusal = refusal; is = is; is_line = refl }, given)
     | inr none ↦ inr none
   ]
 
   -- the refusal of the outcome is written
-  pub refuses_views : (refused : HubRefused) → IsRefused outcome refused → RefusesViews sink k k' refused status → Refuses
+  pub refuses_views : (refused : HubRefused) → IsRefusedHub outcome refused → RefusesViews sink k k' refused status → Refuses
   refuses_views TooManyViews is h = by_refusal TooManyViews is.0 is.1 is.2 h
   refuses_views (InView v refused) is h = by_refusal (InView v refused) is.0 is.1 is.2 h
   refuses_views (ViewsDiffer v) is h = by_refusal (ViewsDiffer v) is.0 is.1 is.2 h

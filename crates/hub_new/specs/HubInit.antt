@@ -12,12 +12,13 @@ use Rattle.script_input.specs.declared.limits.TheConstants.{MOST_BYTES}
 use Rattle.program_terms.specs.Terms.{ProgramTree}
 use Rattle.program_writing.specs.Canonical.{canonical}
 use Rattle.script_input.specs.Lines.{program_part}
-use Rattle.hub_run.specs.Runs.{first_state, state_text}
+use Rattle.hub_run.specs.Runs.{first_state, hub_state_text}
 use Rattle.hub_records.specs.HubRecords.{tree_of_programs}
-use Rattle.hub_records.specs.HubStands.{at_start, stands_for}
+use Rattle.hub_records.specs.HubStands.{hub_at_start, stands_as_hub}
 use Rattle.store_new.specs.Command.{Command}
 use Rattle.store_new.specs.NewStores.{HoldsStore}
 use Rattle.hub_new.specs.HubParts.{IsAcceptedHub, view_programs}
+use Rattle.store_run.specs.Devices.{Devices}
 
 -- the payload of some programs: their canonical texts, in a store of version 1
 abbrev pub programs_payload : List ProgramTree → List ℕ
@@ -30,8 +31,8 @@ pub record BeginsHub (bytes : List ℕ) (payloads : List (List ℕ)) (lines : Li
   pub forms : List FormTree
   pub accepted : IsAcceptedHub (program_part bytes) programs forms
   pub are : payloads ≡ programs_payload programs ∷ []
-  pub written : lines ≡ state_text (first_state forms)
-  pub stand : stands_for payloads ≡ Ok (at_start forms)
+  pub written : lines ≡ hub_state_text (first_state forms)
+  pub stand : stands_as_hub payloads ≡ Ok (hub_at_start forms)
 
 -- `init` refuses no script whose program part is accepted
 abbrev pub hub_command : Command
@@ -42,20 +43,20 @@ pub record IsFirstHub (programs : List ProgramTree) (forms : List FormTree) (pay
     (lines : List ℕ) : Type 0 where
   pub are : payloads ≡ programs_payload programs ∷ []
   pub reads : tree_of_text (programs_payload programs) ≡ Some (tree_of_programs (map canonical programs))
-  pub written : lines ≡ state_text (first_state forms)
+  pub written : lines ≡ hub_state_text (first_state forms)
 
 -- The source was read to its end, and gave these bytes. The disk was empty, and holds the payload of the programs
 -- alone. The state lines of the first hub were written, for which the payload stands.
 pub record StartsHub {S K D : Type 0} (source : OfSource.Ghosts S) (sink : OfSink.Ghosts K) (disk : OfDisk.Ghosts D)
-    (old new : S × K × D) : Type 0 where
+    (old new : Devices S K D) : Type 0 where
   pub bytes : List ℕ
-  pub took : Took source old.0 new.0 bytes
-  pub read : IsRead source old.0 new.0
+  pub took : Took source old.source new.source bytes
+  pub read : IsRead source old.source new.source
   pub within : length bytes ≤ MOST_BYTES
-  pub was_empty : IfSome (disk.content old.2) (λ before. length before ≡ 0)
+  pub was_empty : IfSome (disk.content old.disk) (λ before. length before ≡ 0)
   pub programs : List ProgramTree
   pub forms : List FormTree
   pub accepted : IsAcceptedHub (program_part bytes) programs forms
-  pub stored : HoldsStore disk new.2 (programs_payload programs ∷ [])
-  pub given : Gave sink old.1 new.1 (state_text (first_state forms))
-  pub stand : stands_for (programs_payload programs ∷ []) ≡ Ok (at_start forms)
+  pub stored : HoldsStore disk new.disk (programs_payload programs ∷ [])
+  pub given : Gave sink old.sink new.sink (hub_state_text (first_state forms))
+  pub stand : stands_as_hub (programs_payload programs ∷ []) ≡ Ok (hub_at_start forms)

@@ -2,7 +2,7 @@
 use Rattle.std.specs.Prelude.{ℕ, List}
 use Rattle.lens_forms.specs.Forms.{FormTree}
 use Rattle.program_terms.specs.Terms.{ProgramTree}
-use Rattle.hub_run.specs.Lenses.{HubRefusal, lenses_of, refusal_line}
+use Rattle.hub_run.specs.Lenses.{HubRefusal, lenses_of, hub_refusal_line}
 use Rattle.hub_run.specs.PiecePrograms.{AreViews}
 use Rattle.hub_run.specs.Pieces.{pieces}
 use Rattle.store_new.specs.Command.{PartMeaning}
@@ -13,7 +13,7 @@ view_programs = record {
   Accepted = List FormTree;
   Refusal = HubRefusal;
   accepted = lenses_of;
-  refusal_line = refusal_line;
+  refusal_line = hub_refusal_line;
 }
 
 -- the pieces of this program part are read as the programs, and their lenses have the forms

@@ -8,8 +8,8 @@ use Rattle.program_terms.specs.Terms.{ProgramTree}
 use Rattle.script_input.specs.Coming.{IsWhole}
 use Rattle.script_input.specs.Lines.{program_part}
 use Rattle.script_input.specs.declared.limits.TheConstants.{MOST_BYTES}
-use Rattle.hub_run.specs.FoundLenses.{HasRefusalLine, IsRefusalOf, IsRefused}
-use Rattle.hub_run.specs.Lenses.{HubRefusal, lenses_of, refusal_line}
+use Rattle.hub_run.specs.FoundLenses.{HasRefusalLine, IsRefusalOf, IsRefusedHub}
+use Rattle.hub_run.specs.Lenses.{HubRefusal, lenses_of, hub_refusal_line}
 use Rattle.hub_run.specs.declared.views.HubRefused.{HubRefused}
 use Rattle.hub_run.specs.declared.views.HubRefused.TheVariants.{NoMemory as no_memory}
 use Rattle.command_ends.specs.declared.status.Status.{Status}
@@ -25,7 +25,8 @@ use Rattle.hub_new.specs.declared.reading.UnreadHub.TheVariants.{Refused, Stoppe
 pub record RefusesViews {K : Type 0} (sink : OfSink.Ghosts K) (old new : K) (refused : HubRefused)
     (status : Status) : Type 0 where
   pub ends : (refusal : HubRefusal) → IsRefusalOf refused refusal
-      → GivesLine sink old new (refusal_line refusal) ProgramRefused status ⊎ (status ≡ NoMemory) × Gave sink old new []
+      → GivesLine sink old new (hub_refusal_line refusal) ProgramRefused status
+      ⊎ (status ≡ NoMemory) × Gave sink old new []
   pub memory : refused ≡ no_memory → (status ≡ NoMemory) × Gave sink old new []
 
 module _ {S : Type 0} (source : OfSource.Ghosts S) (old new : S) where
@@ -43,7 +44,7 @@ module _ {S : Type 0} (source : OfSource.Ghosts S) (old new : S) where
     pub took : Took source old new bytes
     pub at_most : length bytes ≤ MOST_BYTES + 1
     pub whole : IsWhole source old new bytes
-    pub is : IsRefused (lenses_of (program_part bytes)) refused
+    pub is : IsRefusedHub (lenses_of (program_part bytes)) refused
     pub known : HasRefusalLine refused
 
   -- why a script was not read to its end, or has no hub

@@ -5,7 +5,7 @@ ghost use Rattle.lens_io.specs.Calls.{SourceFailed};
 ghost use Rattle.program_terms.specs.Views.{program_tree};
 ghost use Rattle.view_hub.specs.Laws.{HaveOneLeftType};
 ghost use Rattle.hub_run.specs.FormLenses.{form_lens};
-ghost use Rattle.hub_run.specs.FoundLenses.{HasRefusalLine, IsRefused};
+ghost use Rattle.hub_run.specs.FoundLenses.{HasRefusalLine, IsRefusedHub};
 ghost use Rattle.hub_run.specs.HubHeads.{HasPieces};
 ghost use Rattle.hub_run.specs.Lenses.{lenses_of};
 ghost use Rattle.hub_new.specs.HubParts.{IsAcceptedHub};
@@ -62,7 +62,7 @@ pub fn read_views<S: Source>(alloc: Global, source: &mut S) -> Result<AcceptedVi
 fn accepted_views(alloc: Global, pieces: &Pieces) -> Result<AcceptedViews, HubRefused>
     ensures accepted { (part : List ℕ) → HasPieces pieces.now part → MatchResult result
         (λ a. IsAcceptedHub part (map program_tree a.programs.items) (map form_tree a.lenses.items))
-        (IsRefused (lenses_of part)) }
+        (IsRefusedHub (lenses_of part)) }
     ensures one_left { IfOk result (λ a. HaveOneLeftType form_lens (map form_tree a.lenses.items)) }
     ensures known { IfErr result HasRefusalLine }
 {

@@ -1,19 +1,20 @@
 //! The command `init` of a hub.
 ghost use Rattle.std.specs.Prelude.{◌≡◌, length, map, IfOk, IfSome};
-ghost use Rattle.command_ends.specs.Statuses.{IsAmong, init_statuses};
+ghost use Rattle.command_ends.specs.Statuses.{IsStatusAmong, init_statuses};
 ghost use Rattle.lens_io.specs.Calls.{SourceFailed, SinkFailed, DiskFailed};
 ghost use Rattle.lens_forms.specs.Forms.{form_tree};
 ghost use Rattle.program_terms.specs.Views.{program_tree};
 ghost use Rattle.view_hub.specs.Laws.{HaveOneLeftType};
 ghost use Rattle.hub_run.specs.FormLenses.{form_lens};
 ghost use Rattle.hub_run.specs.FoundLenses.{HasRefusalLine};
-ghost use Rattle.hub_run.specs.Runs.{first_state, state_text};
+ghost use Rattle.hub_run.specs.Runs.{first_state, hub_state_text};
 ghost use Rattle.store_new.specs.NewEnds.{Completes, Ends, KeepsStore, RefusesAtOnce};
 ghost use Rattle.store_new.specs.Making.{EndsPlan};
 ghost use Rattle.store_new.specs.NewRooms.{PlanHasNoRoom, ScriptHasNoRoom};
 ghost use Rattle.hub_new.specs.HubInit.{IsFirstHub, StartsHub, hub_command};
 ghost use Rattle.hub_new.specs.HubParts.{view_programs};
 ghost use Rattle.hub_new.specs.HubReading.{RefusesViews};
+ghost use Rattle.store_run.specs.Devices.{devices_of};
 
 use crate::reading::{UnreadHub, read_views};
 use command_ends::Status;
@@ -43,20 +44,21 @@ pub fn init_hub<S: Source, K: Sink, D: Disk>(
     disk: &mut D,
 ) -> Status
     ensures starts { result ≡ Status.Done
-        → StartsHub S.Source K.Sink D.Disk (source.old, sink.old, disk.old) (source.new, sink.new, disk.new) }
+        → StartsHub S.Source K.Sink D.Disk (devices_of source.old sink.old disk.old)
+        (devices_of source.new sink.new disk.new) }
     ensures ends { Ends S.Source K.Sink D.Disk hub_command
-        (source.old, sink.old, disk.old) (source.new, sink.new, disk.new) result }
+        (devices_of source.old sink.old disk.old) (devices_of source.new sink.new disk.new) result }
     ensures at_once { RefusesAtOnce view_programs S.Source source.old source.new result }
     ensures exists { KeepsStore S.Source K.Sink D.Disk
-        (source.old, sink.old, disk.old) (source.new, sink.new, disk.new) result }
-    ensures statuses { IsAmong init_statuses result }
+        (devices_of source.old sink.old disk.old) (devices_of source.new sink.new disk.new) result }
+    ensures statuses { IsStatusAmong init_statuses result }
     ensures source_fault { result ≡ Status.SourceFault → SourceFailed S.Source source.old source.new }
     ensures sink_fault { result ≡ Status.SinkFault → SinkFailed K.Sink sink.old sink.new }
     ensures disk_fault { result ≡ Status.DiskFault → DiskFailed D.Disk disk.old disk.new }
     ensures room { result ≡ Status.DiskFault
         → IfSome (D.room disk.old) (ScriptHasNoRoom S.Source hub_command source.old source.new) }
     ensures complete { Completes S.Source K.Sink D.Disk hub_command
-        (source.old, sink.old, disk.old) (source.new, sink.new, disk.new) result }
+        (devices_of source.old sink.old disk.old) (devices_of source.new sink.new disk.new) result }
 {
     match disk.len() {
         Ok(0) => init_empty(alloc, source, sink, disk),
@@ -74,7 +76,7 @@ fn init_empty<S: Source, K: Sink, D: Disk>(
 ) -> Status
     requires empty { IfSome (D.content disk.old) (λ bytes. length bytes ≡ 0) }
     ensures ends { Ends S.Source K.Sink D.Disk hub_command
-        (source.old, sink.old, disk.old) (source.new, sink.new, disk.new) result }
+        (devices_of source.old sink.old disk.old) (devices_of source.new sink.new disk.new) result }
     ensures source_fault { result ≡ Status.SourceFault → SourceFailed S.Source source.old source.new }
     ensures sink_fault { result ≡ Status.SinkFault → SinkFailed K.Sink sink.old sink.new }
     ensures disk_fault { result ≡ Status.DiskFault → DiskFailed D.Disk disk.old disk.new }
@@ -141,7 +143,7 @@ fn first_store(alloc: Global, accepted: &AcceptedViews) -> Result<StoreText, All
 // The state lines of the first hub of some lenses.
 fn first_lines(alloc: Global, lenses: &[Typed]) -> Result<Vec<u8>, AllocError>
     requires one_left { HaveOneLeftType form_lens (map form_tree lenses.now) }
-    ensures { IfOk result (λ lines. lines.items ≡ state_text (first_state (map form_tree lenses.now))) }
+    ensures { IfOk result (λ lines. lines.items ≡ hub_state_text (first_state (map form_tree lenses.now))) }
 {
     let hub = HubRun::start(alloc, lenses)?;
     let lines = hub.state_lines(alloc)?;

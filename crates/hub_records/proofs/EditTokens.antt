@@ -15,7 +15,7 @@ use Rattle.edit_json.proofs.TextsReadBack.{ReadsBack, ItemsReadBack, none_reads,
 use Rattle.view_hub.specs.Hubs.{Place, at_hub, at_view}
 use Rattle.view_hub.specs.Views.{edit_tree, edit_trees}
 use Rattle.view_hub.specs.declared.side.HubSide.{HubSide}
-use Rattle.hub_run.specs.EditJson.{tree_of_place, tree_of_edit, place_fits}
+use Rattle.hub_run.specs.EditJson.{tree_of_hub_place, tree_of_edit, hub_place_fits}
 use Rattle.hub_records.specs.HubChanges.{HubChangeTree, one, group, edits_of, items_of_edits, tree_of_hub_change, all_counts_fit, edit_fits, all_numbers_fit}
 
 -- ---- the loop
@@ -42,7 +42,7 @@ pub ruleset edit_rules = (next_edit_fits, all_edits_fit)
 
 -- ---- what is read back
 
-place_reads : (p : Place) → place_fits p ≡ true → ReadsBack (tree_of_place p)
+place_reads : (p : Place) → hub_place_fits p ≡ true → ReadsBack (tree_of_hub_place p)
 place_reads at_hub h = string_reads (codes "hub")
 place_reads (at_view k) h = count_reads k h
 
@@ -51,8 +51,8 @@ parts_read d e h k = record { same = rw (h.same, k.same) refl; numbers = (h.numb
 
 edit_reads : (e : Place × WordTree) → counts_fit e.1 ≡ true → edit_fits e ≡ true → ReadsBack (tree_of_edit e)
 edit_reads e counts numbers =
-    parts_read (tree_of_place e.0) (tree_of_word e.1) (place_reads e.0 (left (place_fits e.0) (numbers_fit e.1) numbers))
-    (word_reads e.1 counts (right (place_fits e.0) (numbers_fit e.1) numbers))
+    parts_read (tree_of_hub_place e.0) (tree_of_word e.1) (place_reads e.0 (left (hub_place_fits e.0) (numbers_fit e.1) numbers))
+    (word_reads e.1 counts (right (hub_place_fits e.0) (numbers_fit e.1) numbers))
 
 edits_read : (es : List (Place × WordTree)) → all_counts_fit es ≡ true → all_numbers_fit es ≡ true → ItemsReadBack (items_of_edits es)
 edits_read [] counts numbers = none_reads

@@ -22,9 +22,9 @@ use Rattle.hub_run.specs.Lenses.{HubRefusal, too_many_views, form_of_view, first
 use Rattle.hub_run.specs.PiecePrograms as piece
 use Rattle.hub_run.specs.declared.pieces.TheConstants.{MOST_VIEWS}
 use Rattle.hub_run.proofs.FoundForms.{found_view, of_pieces}
-use Rattle.hub_records.specs.HubLenses.{joins, joining, forms_more, form_of_item, forms_behind, forms_of_items, forms_of_payload}
+use Rattle.hub_records.specs.HubLenses.{joins, joining_form, forms_more, form_of_item, forms_behind, forms_of_items, forms_of_payload}
 use Rattle.hub_records.specs.HubRecords.{items_of_texts, tree_of_programs, programs_of}
-use Rattle.hub_records.specs.HubStands.{at_start, from_opening, stands_for}
+use Rattle.hub_records.specs.HubStands.{hub_at_start, hub_from_opening, stands_as_hub}
 
 -- ---- a program, and its canonical text
 
@@ -56,7 +56,7 @@ may_join [] form left few = refl
 may_join (m ∷ ms) form left few =
     both (nat_lt (length (m ∷ ms)) MOST_VIEWS) (is_same_ty (left_type m) (left_type form)) (lt-ltb (length (m ∷ ms)) MOST_VIEWS few) (same_test (left_type m) form left)
 
-pub joins_so : (before : List FormTree) (form : FormTree) → joins before form ≡ true → joining before (Some form) ≡ Some form
+pub joins_so : (before : List FormTree) (form : FormTree) → joins before form ≡ true → joining_form before (Some form) ≡ Some form
 joins_so before form may = by_test (joins before form) may where
   by_test : (b : Bool) → b ≡ true → cond b (Some form) None ≡ Some form
   by_test true e = refl
@@ -80,14 +80,14 @@ front_found : (ps : List (List ℕ)) (before forms : List FormTree) (o : Result 
 front_found ps before forms (Ok form) h = (form, refl, h)
 front_found ps before forms (Err refusal) h = cc
 
-behind_are : (ps : List (List ℕ)) (programs : List ProgramTree) (before forms : List FormTree) → piece.programs_of ps ≡ Some programs → forms_from ps before ≡ Ok forms
+behind_are : (ps : List (List ℕ)) (programs : List ProgramTree) (before forms : List FormTree) → piece.programs_of_pieces ps ≡ Some programs → forms_from ps before ≡ Ok forms
     → length before + length ps ≤ MOST_VIEWS → forms_behind before (items_of_texts (texts_of programs)) ≡ Some forms
 behind_are [] programs before forms read found few =
     let none : [] ≡ programs = cc in
     let same : before ≡ forms = cc in
     ap (λ qs. forms_behind before (items_of_texts (texts_of qs))) (sym none) ∙ ap Some same
 behind_are (p ∷ ps) programs before forms read found few =
-    let r = front_read (piece.program_of p) (piece.programs_of ps) programs read in
+    let r = front_read (piece.program_of_piece p) (piece.programs_of_pieces ps) programs read in
     let f = front_found ps before forms (form_of_view (first_left before) (length before) p) found in
     let q = r.0 in
     let form = f.0 in
@@ -116,10 +116,10 @@ items_are (q ∷ qs) forms one h = h
 
 -- these programs alone stand for the first hub of their lenses
 pub programs_stand : (payload : List ℕ) (ps : List (List ℕ)) (programs : List ProgramTree) (forms : List FormTree) → tree_of_text payload ≡ Some (tree_of_programs (texts_of programs))
-    → piece.programs_of ps ≡ Some programs → forms_of ps ≡ Ok forms → HaveOneLeftType form_lens forms
-    → stands_for (payload ∷ []) ≡ Ok (at_start forms)
+    → piece.programs_of_pieces ps ≡ Some programs → forms_of ps ≡ Ok forms → HaveOneLeftType form_lens forms
+    → stands_as_hub (payload ∷ []) ≡ Ok (hub_at_start forms)
 programs_stand payload ps programs forms reads read found one =
     let behind = behind_are ps programs [] forms read (of_pieces ps forms found) (omega (arith, few_pieces ps forms found)) in
     let items : forms_of_payload payload ≡ Some forms =
     ap (λ o. option_and_then forms_of_items (option_and_then programs_of o)) reads ∙ items_are programs forms one behind in
-    ap (from_opening []) items
+    ap (hub_from_opening []) items

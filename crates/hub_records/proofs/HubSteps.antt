@@ -7,7 +7,7 @@ use Rattle.doc_values.specs.Documents.{DocTree}
 use Rattle.doc_values.specs.Types.{TyTree}
 use Rattle.lens_forms.specs.Forms.{FormTree, form_tree, left_type}
 use Rattle.view_hub.specs.Groups.{then_others, with_words, step_group, add_view}
-use Rattle.view_hub.specs.Hubs.{ViewTree, HubTree, Place, CarriedTree, Refusal, step}
+use Rattle.view_hub.specs.Hubs.{ViewTree, HubTree, Place, CarriedTree, ViewRefusal, step}
 use Rattle.view_hub.specs.Laws.{AllInStep, IsHub}
 use Rattle.hub_run.specs.FormLenses.{form_lens}
 use Rattle.hub_run.specs.FoundLenses.{AllTyped}
@@ -17,7 +17,7 @@ use Rattle.hub_run.proofs.MappedLenses.{steps_are}
 abbrev form_of : ReadyForm → FormTree
 form_of l = form_tree l.typed
 
-others_are : (ls : List ReadyForm) (es : List (Place × WordTree)) (o : Option (Result (HubTree × CarriedTree) Refusal))
+others_are : (ls : List ReadyForm) (es : List (Place × WordTree)) (o : Option (Result (HubTree × CarriedTree) ViewRefusal))
     → ((h : HubTree) → step_group ready_lens ls h es ≡ step_group form_lens (forms_of_lenses ls) h es)
     → option_and_then (then_others (λ h. step_group ready_lens ls h es)) o ≡ option_and_then (then_others (λ h. step_group form_lens (forms_of_lenses ls) h es)) o
 others_are ls es (Some (Ok s)) same = ap (option_map (with_words s.1)) (same s.0)

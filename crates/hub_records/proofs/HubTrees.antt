@@ -19,7 +19,7 @@ use Rattle.program_terms.specs.Views.{program_tree}
 use Rattle.program_terms.specs.declared.program.Program.{Program}
 use Rattle.program_writing.specs.Canonical.{canonical}
 use Rattle.view_hub.specs.Hubs.{ViewTree, HubTree, Place, at_hub, at_view}
-use Rattle.hub_run.specs.EditJson.{tree_of_place, tree_of_edit}
+use Rattle.hub_run.specs.EditJson.{tree_of_hub_place, tree_of_edit}
 use Rattle.hub_records.specs.HubRecords.{items_of_texts, tree_of_programs, items_of_views, tree_of_hub, tree_of_hub_snapshot}
 use Rattle.hub_records.specs.LowForms.{AllLow}
 use Rattle.hub_records.specs.Views.{canonical_texts}
@@ -57,7 +57,7 @@ programs_low ts = omega (arith, texts_flat ts)
 
 -- ---- edits
 
-place_flat : (p : Place) → depth (tree_of_place p) ≡ 0
+place_flat : (p : Place) → depth (tree_of_hub_place p) ≡ 0
 place_flat at_hub = refl
 place_flat (at_view k) = refl
 

@@ -12,7 +12,7 @@ use Rattle.lens_forms.specs.Forms.{FormTree, form_tree, left_type}
 use Rattle.view_hub.specs.Laws.{SameLeft, HaveOneLeftType}
 use Rattle.hub_run.specs.RunStates.{forms_of_lenses, ready_lens}
 use Rattle.hub_run.specs.declared.pieces.TheConstants.{MOST_VIEWS}
-use Rattle.hub_records.specs.HubLenses.{joins, joining, forms_more, form_of_item, forms_behind, forms_of_items}
+use Rattle.hub_records.specs.HubLenses.{joins, joining_form, forms_more, form_of_item, forms_behind, forms_of_items}
 use Rattle.hub_records.specs.OneLeftType.{HasOneLeft}
 
 abbrev form_of : ReadyForm → FormTree
@@ -23,7 +23,7 @@ form_of l = form_tree l.typed
 pub forms_snoc : (ls : List ReadyForm) (l : ReadyForm) → forms_of_lenses (ls ++ l ∷ []) ≡ forms_of_lenses ls ++ form_of l ∷ []
 forms_snoc ls l = map-append form_of ls (l ∷ [])
 
-pub joined : (before : List FormTree) (found : Option FormTree) (l : FormTree) → joining before found ≡ Some l → (found ≡ Some l) × (joins before l ≡ true)
+pub joined : (before : List FormTree) (found : Option FormTree) (l : FormTree) → joining_form before found ≡ Some l → (found ≡ Some l) × (joins before l ≡ true)
 joined before (Some m) l h = by_test (joins before m) refl h where
   by_test : (b : Bool) → joins before m ≡ b → cond b (Some m) None ≡ Some l → (Some m ≡ Some l) × (joins before l ≡ true)
   by_test true is e = let same : m ≡ l = cc in (ap Some same, subst (λ l. joins before l ≡ true) same is)
@@ -42,7 +42,7 @@ one_more (m ∷ ls) l all is =
     same_more (left_type (form_of m)) ls l all (sym (is_same_ty-equal (left_type (form_of m)) (left_type (form_of l)) same))
 
 -- a lens that may stand behind others has their left type
-pub joined_left : (ls : List ReadyForm) (found : Option FormTree) (l : ReadyForm) → Some (form_of l) ≡ joining (forms_of_lenses ls) found → HasOneLeft ls
+pub joined_left : (ls : List ReadyForm) (found : Option FormTree) (l : ReadyForm) → Some (form_of l) ≡ joining_form (forms_of_lenses ls) found → HasOneLeft ls
     → HaveOneLeftType ready_lens (ls ++ l ∷ [])
 joined_left ls found l is all = one_more ls l all (joined (forms_of_lenses ls) found (form_of l) (sym is)).1
 
@@ -53,22 +53,22 @@ has_one (l ∷ ls) all = all
 -- ---- the loop
 
 pub next_found : (items : List Value) (i : ℕ) (d : Value) (ls : List ReadyForm) (l : ReadyForm) (all : Option (List FormTree)) → i < length items → d ≡ get_or items i d
-    → Some (form_of l) ≡ joining (forms_of_lenses ls) (form_of_item (view d))
+    → Some (form_of l) ≡ joining_form (forms_of_lenses ls) (form_of_item (view d))
     → forms_behind (forms_of_lenses ls) (items_view (drop i items)) ≡ all
     → forms_behind (forms_of_lenses (ls ++ l ∷ [])) (items_view (drop (i + 1) items)) ≡ all
 next_found items i d ls l all within is found h =
     let here : forms_more (forms_of_lenses ls) (form_of_item (view (get_or items i d))) ≡ Some (forms_of_lenses ls ++ form_of l ∷ []) =
-    ap (option_map (λ (f : FormTree). forms_of_lenses ls ++ f ∷ [])) (ap (λ x. joining (forms_of_lenses ls) (form_of_item (view x))) (sym is) ∙ sym found) in
+    ap (option_map (λ (f : FormTree). forms_of_lenses ls ++ f ∷ [])) (ap (λ x. joining_form (forms_of_lenses ls) (form_of_item (view x))) (sym is) ∙ sym found) in
     let step : forms_behind (forms_of_lenses ls) (items_view (drop i items)) ≡ forms_behind (forms_of_lenses ls ++ form_of l ∷ []) (items_view (drop (suc i) items)) =
     rw (drop-cons items i d within) (ap (option_and_then (λ forms. forms_behind forms (items_view (drop (suc i) items)))) here) in
     rw (add-one i, forms_snoc ls l) (sym step ∙ h)
 
 pub next_lost : (items : List Value) (i : ℕ) (d : Value) (ls : List ReadyForm) (all : Option (List FormTree)) → i < length items → d ≡ get_or items i d
-    → None ≡ joining (forms_of_lenses ls) (form_of_item (view d))
+    → None ≡ joining_form (forms_of_lenses ls) (form_of_item (view d))
     → forms_behind (forms_of_lenses ls) (items_view (drop i items)) ≡ all → None ≡ all
 next_lost items i d ls all within is lost h =
     let here : forms_more (forms_of_lenses ls) (form_of_item (view (get_or items i d))) ≡ None =
-    ap (option_map (λ (f : FormTree). forms_of_lenses ls ++ f ∷ [])) (ap (λ x. joining (forms_of_lenses ls) (form_of_item (view x))) (sym is) ∙ sym lost) in
+    ap (option_map (λ (f : FormTree). forms_of_lenses ls ++ f ∷ [])) (ap (λ x. joining_form (forms_of_lenses ls) (form_of_item (view x))) (sym is) ∙ sym lost) in
     let step : forms_behind (forms_of_lenses ls) (items_view (drop i items)) ≡ None =
     rw (drop-cons items i d within) (ap (option_and_then (λ forms. forms_behind forms (items_view (drop (suc i) items)))) here) in
     sym step ∙ h

@@ -14,11 +14,11 @@ use Rattle.lens_forms.specs.Forms.{FormTree, form_tree, left_type, right_type}
 use Rattle.lens_forms.specs.declared.limits.TheConstants.{GREATEST_HEIGHT}
 use Rattle.store_records.proofs.AppliedWords.{word_low}
 use Rattle.view_hub.specs.Groups.{GroupStepped, with_words, then_others, step_group}
-use Rattle.view_hub.specs.Hubs.{ViewTree, HubTree, Place, at_hub, at_view, CarriedTree, Refusal, act_on_hub, after_hub, after_view, step_view, step}
+use Rattle.view_hub.specs.Hubs.{ViewTree, HubTree, Place, at_hub, at_view, CarriedTree, ViewRefusal, act_on_hub, after_hub, after_view, step_view, step}
 use Rattle.hub_run.specs.FormLenses.{form_lens}
 use Rattle.hub_run.specs.RunStates.{forms_of_lenses}
 use Rattle.hub_records.specs.HubChanges.{HubChangeTree, one, group, items_of_edits, tree_of_hub_change}
-use Rattle.hub_records.specs.HubStands.{step_of}
+use Rattle.hub_records.specs.HubStands.{hub_step_of}
 use Rattle.hub_records.specs.LowForms.{IsLow, AllLow}
 use Rattle.hub_records.proofs.HubTrees.{edit_shallow}
 
@@ -42,7 +42,7 @@ all_low ls i past all = subst (λ (xs : List ReadyForm). AllLow (forms_of_lenses
 
 module _ (ls : List FormTree) (low : AllLow ls) where
   abbrev Stepped : Type 0
-  Stepped = Result (HubTree × CarriedTree) Refusal
+  Stepped = Result (HubTree × CarriedTree) ViewRefusal
 
   low_at_place : (ms : List FormTree) (k : ℕ) (l : FormTree) → AllLow ms → slice_get ms k ≡ Some l → IsLow l
   low_at_place [] k l all is = cc
@@ -102,6 +102,6 @@ module _ (ls : List FormTree) (low : AllLow ls) where
       let f = first_made (λ next. step_group form_lens ls next es) (step form_lens ls h e) m is in
       omega (arith, edit_shallow e, edit_low h e f.0 f.1, edits_low f.0.0 es f.2 f.3)
 
-  pub accepted_low : (h : HubTree) (change : HubChangeTree) (m : HubTree × List CarriedTree) → step_of ls h change ≡ Some (Ok m) → depth (tree_of_hub_change change) ≤ max_depth
+  pub accepted_low : (h : HubTree) (change : HubChangeTree) (m : HubTree × List CarriedTree) → hub_step_of ls h change ≡ Some (Ok m) → depth (tree_of_hub_change change) ≤ max_depth
   accepted_low h (one e) m is = omega (arith, edits_low h (e ∷ []) m is)
   accepted_low h (group es) m is = omega (arith, edits_low h es m is)

@@ -6,12 +6,12 @@ use Rattle.store_records.specs.declared.record_fault.RecordFault.{RecordFault}
 use Rattle.store_records.specs.declared.record_fault.RecordFault.TheVariants.{NotConsistent, NoMemory}
 use Rattle.view_hub.specs.Groups.{GroupStepped}
 use Rattle.view_hub.specs.Hubs.{HubTree}
-use Rattle.hub_records.specs.HubLenses.{joining, forms_of_payload}
-use Rattle.hub_records.specs.HubRecords.{HubRecordTree, change_record, add_record, snapshot_record, record_in}
-use Rattle.hub_records.specs.HubStands.{HubStanding, step_of, after_step, with_form, after_view, hub_from, are_consistent, after_hub, after_record, going_on, after_payloads, at_start, from_opening, stands_for}
+use Rattle.hub_records.specs.HubLenses.{joining_form, forms_of_payload}
+use Rattle.hub_records.specs.HubRecords.{HubRecordTree, change_record, add_record, snapshot_record, hub_record_in}
+use Rattle.hub_records.specs.HubStands.{HubStanding, hub_step_of, hub_after_step, with_view_form, after_view, hub_from, are_consistent, after_hub, hub_after_record, hub_going_on, hub_after_payloads, hub_at_start, hub_from_opening, stands_as_hub}
 
 module _ (n : ℕ) (s : HubStanding) where
-  step_known : (o : Option GroupStepped) → after_step n s o ≡ Err NoMemory → ⊥
+  step_known : (o : Option GroupStepped) → hub_after_step n s o ≡ Err NoMemory → ⊥
   step_known (Some (Ok made)) h = cc
   step_known (Some (Err why)) h = cc
   step_known None h = cc
@@ -28,26 +28,26 @@ module _ (n : ℕ) (s : HubStanding) where
   hub_known (Some k) h = test_known (are_consistent s.forms k.hub k.views) (record s { hub = k }) h
   hub_known None h = cc
 
-  record_known : (r : Option HubRecordTree) → after_record n s r ≡ Err NoMemory → ⊥
+  record_known : (r : Option HubRecordTree) → hub_after_record n s r ≡ Err NoMemory → ⊥
   record_known None h = cc
-  record_known (Some (change_record change)) h = step_known (step_of s.forms s.hub change) h
-  record_known (Some (add_record text)) h = view_known (option_and_then (with_form s) (joining s.forms (form_of_text text))) h
+  record_known (Some (change_record change)) h = step_known (hub_step_of s.forms s.hub change) h
+  record_known (Some (add_record text)) h = view_known (option_and_then (with_view_form s) (joining_form s.forms (form_of_text text))) h
   record_known (Some (snapshot_record p)) h = hub_known (hub_from s.forms p) h
 
 goes_known : (r : Result HubStanding RecordFault) (others : HubStanding → Result HubStanding RecordFault) → (r ≡ Err NoMemory → ⊥) → ((t : HubStanding) → others t ≡ Err NoMemory → ⊥)
-    → going_on others r ≡ Err NoMemory → ⊥
+    → hub_going_on others r ≡ Err NoMemory → ⊥
 goes_known (Ok t) others first rest h = rest t h
 goes_known (Err fault) others first rest h = first h
 
-payloads_known : (n : ℕ) (s : HubStanding) (ps : List (List ℕ)) → after_payloads n s ps ≡ Err NoMemory → ⊥
+payloads_known : (n : ℕ) (s : HubStanding) (ps : List (List ℕ)) → hub_after_payloads n s ps ≡ Err NoMemory → ⊥
 payloads_known n s [] h = cc
 payloads_known n s (p ∷ ps) h =
-    goes_known (after_record n s (record_in p)) (λ t. after_payloads (n + 1) t ps) (record_known n s (record_in p)) (λ t e. payloads_known (n + 1) t ps e) h
+    goes_known (hub_after_record n s (hub_record_in p)) (λ t. hub_after_payloads (n + 1) t ps) (record_known n s (hub_record_in p)) (λ t e. payloads_known (n + 1) t ps e) h
 
-opening_known : (ps : List (List ℕ)) (o : Option (List FormTree)) → from_opening ps o ≡ Err NoMemory → ⊥
-opening_known ps (Some forms) h = payloads_known 2 (at_start forms) ps h
+opening_known : (ps : List (List ℕ)) (o : Option (List FormTree)) → hub_from_opening ps o ≡ Err NoMemory → ⊥
+opening_known ps (Some forms) h = payloads_known 2 (hub_at_start forms) ps h
 opening_known ps None h = cc
 
-pub stands_known : (ps : List (List ℕ)) → stands_for ps ≡ Err NoMemory → ⊥
+pub stands_known : (ps : List (List ℕ)) → stands_as_hub ps ≡ Err NoMemory → ⊥
 stands_known [] h = cc
 stands_known (p ∷ ps) h = opening_known ps (forms_of_payload p) h

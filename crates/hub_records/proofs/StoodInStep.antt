@@ -30,7 +30,7 @@ use Rattle.store_records.specs.declared.record_fault.RecordFault.TheVariants.{No
 use Rattle.store_session.specs.ConsistencyTest.{is_consistent}
 use Rattle.store_session.specs.ConsistencyDecided.{consistent_if}
 use Rattle.view_hub.specs.Groups.{GroupStepped, with_words, then_others, step_group}
-use Rattle.view_hub.specs.Hubs.{ViewTree, HubTree, Place, CarriedTree, Refusal as StepRefusal, step}
+use Rattle.view_hub.specs.Hubs.{ViewTree, HubTree, Place, CarriedTree, ViewRefusal as StepRefusal, step}
 use Rattle.view_hub.specs.Laws.{AllInStep, SameLeft, HaveOneLeftType}
 use Rattle.view_hub.proofs.GroupSteps.{added_in_step}
 use Rattle.hub_run.specs.Answers.{HubAnswerTree, carried}
@@ -42,9 +42,9 @@ use Rattle.hub_run.specs.declared.pieces.TheConstants.{MOST_VIEWS}
 use Rattle.hub_run.proofs.FormsInStep.{TypedForm, form_of, with_types, forms_back, typed_lens, TypedHub, FormHub, is_hub, hub_back, forms_stay, forms_start}
 use Rattle.hub_run.proofs.FoundForms.{OneLeft, typed_more, one_more, some_left}
 use Rattle.hub_records.specs.HubChanges.{HubChangeTree, edits_of}
-use Rattle.hub_records.specs.HubLenses.{joins, joining, form_of_item, forms_behind, forms_of_items, forms_of_payload}
-use Rattle.hub_records.specs.HubRecords.{HubRecordTree, change_record, add_record, snapshot_record, programs_of, record_in}
-use Rattle.hub_records.specs.HubStands.{HubStanding, step_of, after_step, view_more, with_form, after_view, hub_from, are_consistent, after_hub, after_record, going_on, after_payloads, at_start, from_opening, stands_for}
+use Rattle.hub_records.specs.HubLenses.{joins, joining_form, form_of_item, forms_behind, forms_of_items, forms_of_payload}
+use Rattle.hub_records.specs.HubRecords.{HubRecordTree, change_record, add_record, snapshot_record, programs_of, hub_record_in}
+use Rattle.hub_records.specs.HubStands.{HubStanding, hub_step_of, hub_after_step, view_more, with_view_form, after_view, hub_from, are_consistent, after_hub, hub_after_record, hub_going_on, hub_after_payloads, hub_at_start, hub_from_opening, stands_as_hub}
 use Rattle.hub_records.proofs.JoiningForms.{joined}
 
 -- ---- the lens of a text that is accepted is typed
@@ -84,7 +84,7 @@ lenses_more before l one is = some_left before l (one_more before l one (same_le
 abbrev AreSound : List FormTree → Type 0
 AreSound forms = AllTyped forms × HaveOneLeftType form_lens forms
 
-one_behind : (before : List FormTree) (d : Data) (ds : Items) (forms : List FormTree) (o : Option FormTree) → joining before (form_of_item d) ≡ o → AllTyped before → OneLeft before
+one_behind : (before : List FormTree) (d : Data) (ds : Items) (forms : List FormTree) (o : Option FormTree) → joining_form before (form_of_item d) ≡ o → AllTyped before → OneLeft before
     → ((more : List FormTree) → AreSound more → forms_behind more ds ≡ Some forms → AreSound forms)
     → option_and_then (λ fs. forms_behind fs ds) (option_map (λ l. before ++ l ∷ []) o) ≡ Some forms → AreSound forms
 one_behind before d ds forms (Some l) is typed one rest h =
@@ -95,12 +95,12 @@ one_behind before d ds forms None is typed one rest h = absurd cc
 sound_behind : (before : List FormTree) (ds : Items) (forms : List FormTree) → AreSound before → forms_behind before ds ≡ Some forms → AreSound forms
 sound_behind before no_items forms s h = let same : before ≡ forms = cc in subst AreSound same s
 sound_behind before (item d ds) forms s h =
-    one_behind before d ds forms (joining before (form_of_item d)) refl s.0 (one_left before s.1) (λ more t e. sound_behind more ds forms t e) h
+    one_behind before d ds forms (joining_form before (form_of_item d)) refl s.0 (one_left before s.1) (λ more t e. sound_behind more ds forms t e) h
 
 sound_items : (ds : Items) (forms : List FormTree) → forms_of_items ds ≡ Some forms → AreSound forms
 sound_items no_items forms h = absurd cc
 sound_items (item d ds) forms h =
-    one_behind [] d ds forms (joining [] (form_of_item d)) refl tt tt (λ more t e. sound_behind more ds forms t e) h
+    one_behind [] d ds forms (joining_form [] (form_of_item d)) refl tt tt (λ more t e. sound_behind more ds forms t e) h
 
 sound_programs : (o : Option Items) (forms : List FormTree) → option_and_then forms_of_items o ≡ Some forms → AreSound forms
 sound_programs (Some ds) forms h = sound_items ds forms h
@@ -147,7 +147,7 @@ edits_stay forms all h (e ∷ es) m k is =
     subst (FormHub forms) f.4 (edits_stay forms all f.0.0 es f.2 (edit_stays forms all h e f.0 k f.1) f.3)
 
 pub change_stays : (forms : List FormTree) → AllTyped forms → (h : HubTree) (change : HubChangeTree) (k : HubTree) (words : List CarriedTree) → FormHub forms h
-    → step_of forms h change ≡ Some (Ok (k, words)) → FormHub forms k
+    → hub_step_of forms h change ≡ Some (Ok (k, words)) → FormHub forms k
 change_stays forms all h change k words there is = edits_stay forms all h (edits_of change) (k, words) there is
 
 -- ---- a view more
@@ -218,7 +218,7 @@ abbrev pub IsSound : HubStanding → Type 0
 IsSound s = AllTyped s.forms × FormHub s.forms s.hub
 
 module _ (n : ℕ) (s u : HubStanding) (k : IsSound s) where
-  if_step : (change : HubChangeTree) (o : Option GroupStepped) → step_of s.forms s.hub change ≡ o → after_step n s o ≡ Ok u → IsSound u
+  if_step : (change : HubChangeTree) (o : Option GroupStepped) → hub_step_of s.forms s.hub change ≡ o → hub_after_step n s o ≡ Ok u → IsSound u
   if_step change (Some (Ok made)) e h =
       let same : record s { hub = made.0; count = s.count + 1 } ≡ u = cc in
       subst IsSound same (k.0, edits_stay s.forms k.0 s.hub (edits_of change) made k.1 e)
@@ -232,7 +232,7 @@ module _ (n : ℕ) (s u : HubStanding) (k : IsSound s) where
       subst IsSound same (typed_more s.forms l k.0 typed, view_stays s.forms k.0 l typed s.hub x k.1 may e)
   if_added l typed may None e h = absurd cc
 
-  if_joined : (text : List ℕ) (o : Option FormTree) → joining s.forms (form_of_text text) ≡ o → after_view n (option_and_then (with_form s) o) ≡ Ok u → IsSound u
+  if_joined : (text : List ℕ) (o : Option FormTree) → joining_form s.forms (form_of_text text) ≡ o → after_view n (option_and_then (with_view_form s) o) ≡ Ok u → IsSound u
   if_joined text (Some l) e h =
       let j = joined s.forms (form_of_text text) l e in
       if_added l (text_typed text l j.0) j.1 (view_more l s.hub) refl h
@@ -248,32 +248,32 @@ module _ (n : ℕ) (s u : HubStanding) (k : IsSound s) where
   if_hub (Some x) h = if_consistent x (are_consistent s.forms x.hub x.views) refl h
   if_hub None h = absurd cc
 
-  record_sound : (r : Option HubRecordTree) → after_record n s r ≡ Ok u → IsSound u
+  record_sound : (r : Option HubRecordTree) → hub_after_record n s r ≡ Ok u → IsSound u
   record_sound None h = absurd cc
-  record_sound (Some (change_record change)) h = if_step change (step_of s.forms s.hub change) refl h
-  record_sound (Some (add_record text)) h = if_joined text (joining s.forms (form_of_text text)) refl h
+  record_sound (Some (change_record change)) h = if_step change (hub_step_of s.forms s.hub change) refl h
+  record_sound (Some (add_record text)) h = if_joined text (joining_form s.forms (form_of_text text)) refl h
   record_sound (Some (snapshot_record p)) h = if_hub (hub_from s.forms p) h
 
 -- ---- all records
 
 goes_on : (others : HubStanding → Result HubStanding RecordFault) (r : Result HubStanding RecordFault) (u : HubStanding)
-    → ((t : HubStanding) → r ≡ Ok t → others t ≡ Ok u → IsSound u) → going_on others r ≡ Ok u → IsSound u
+    → ((t : HubStanding) → r ≡ Ok t → others t ≡ Ok u → IsSound u) → hub_going_on others r ≡ Ok u → IsSound u
 goes_on others (Ok t) u all h = all t refl h
 goes_on others (Err fault) u all h = absurd cc
 
-payloads_sound : (ps : List (List ℕ)) (n : ℕ) (s u : HubStanding) → IsSound s → after_payloads n s ps ≡ Ok u → IsSound u
+payloads_sound : (ps : List (List ℕ)) (n : ℕ) (s u : HubStanding) → IsSound s → hub_after_payloads n s ps ≡ Ok u → IsSound u
 payloads_sound [] n s u k h = let same : s ≡ u = cc in subst IsSound same k
 payloads_sound (p ∷ ps) n s u k h =
-    goes_on (λ t. after_payloads (n + 1) t ps) (after_record n s (record_in p)) u
-    (λ t e g. payloads_sound ps (n + 1) t u (record_sound n s t k (record_in p) e) g) h
+    goes_on (λ t. hub_after_payloads (n + 1) t ps) (hub_after_record n s (hub_record_in p)) u
+    (λ t e g. payloads_sound ps (n + 1) t u (record_sound n s t k (hub_record_in p) e) g) h
 
-start_sound : (forms : List FormTree) → AreSound forms → IsSound (at_start forms)
+start_sound : (forms : List FormTree) → AreSound forms → IsSound (hub_at_start forms)
 start_sound forms s = (s.0, forms_start forms s.0 s.1)
 
-opening_sound : (p : List ℕ) (ps : List (List ℕ)) (o : Option (List FormTree)) (u : HubStanding) → forms_of_payload p ≡ o → from_opening ps o ≡ Ok u → IsSound u
-opening_sound p ps (Some forms) u is h = payloads_sound ps 2 (at_start forms) u (start_sound forms (first_sound p forms is)) h
+opening_sound : (p : List ℕ) (ps : List (List ℕ)) (o : Option (List FormTree)) (u : HubStanding) → forms_of_payload p ≡ o → hub_from_opening ps o ≡ Ok u → IsSound u
+opening_sound p ps (Some forms) u is h = payloads_sound ps 2 (hub_at_start forms) u (start_sound forms (first_sound p forms is)) h
 opening_sound p ps None u is h = absurd cc
 
-pub stood_sound : (ps : List (List ℕ)) (s : HubStanding) → stands_for ps ≡ Ok s → IsSound s
+pub stood_sound : (ps : List (List ℕ)) (s : HubStanding) → stands_as_hub ps ≡ Ok s → IsSound s
 stood_sound [] s h = absurd cc
 stood_sound (p ∷ ps) s h = opening_sound p ps (forms_of_payload p) s refl h

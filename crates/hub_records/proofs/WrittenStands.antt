@@ -25,9 +25,9 @@ use Rattle.view_hub.specs.Laws.{AllInStep, IsHub}
 use Rattle.hub_run.specs.FormLenses.{form_lens}
 use Rattle.hub_run.specs.FoundLenses.{AllTyped}
 use Rattle.hub_records.specs.HubChanges.{HubChangeTree, edits_of, tree_of_hub_change, all_counts_fit, all_numbers_fit}
-use Rattle.hub_records.specs.HubRecords.{tree_of_added, tree_of_view, items_of_views, tree_of_hub_snapshot, view_parts, record_of}
-use Rattle.hub_records.specs.HubLenses.{joins, joining}
-use Rattle.hub_records.specs.HubStands.{HubStanding, step_of, after_step, view_more, with_form, after_view, after_add, view_of, views_of, hub_from, are_consistent, after_hub, after_record, stands_for}
+use Rattle.hub_records.specs.HubRecords.{tree_of_added, tree_of_view, items_of_views, tree_of_hub_snapshot, view_parts, hub_record_of}
+use Rattle.hub_records.specs.HubLenses.{joins, joining_form}
+use Rattle.hub_records.specs.HubStands.{HubStanding, hub_step_of, hub_after_step, view_more, with_view_form, after_view, after_add, view_of, views_of, hub_from, are_consistent, after_hub, hub_after_record, stands_as_hub}
 use Rattle.hub_records.specs.WholeInts.{views_hold_i64s, hub_holds_i64s}
 use Rattle.hub_records.proofs.Appending.{stands_append}
 use Rattle.hub_records.proofs.RecordsAreRead.{change_read, snapshot_read}
@@ -36,33 +36,33 @@ if_true : {X : Type 0} (b : Bool) (x y : X) → b ≡ true → cond b x y ≡ x
 if_true true x y h = refl
 if_true false x y h = cc
 
-module _ (ps : List (List ℕ)) (p : List ℕ) (s : HubStanding) (before : stands_for ps ≡ Ok s) where
+module _ (ps : List (List ℕ)) (p : List ℕ) (s : HubStanding) (before : stands_as_hub ps ≡ Ok s) where
   abbrev number : ℕ
   number = length ps + 1
 
   -- the payload goes on by the record of its tree
-  goes_on : (d : Data) → tree_of_text p ≡ Some d → stands_for (ps ++ p ∷ []) ≡ after_record number s (record_of d)
-  goes_on d reads = stands_append ps p s before ∙ ap (λ o. after_record number s (option_and_then record_of o)) reads
+  goes_on : (d : Data) → tree_of_text p ≡ Some d → stands_as_hub (ps ++ p ∷ []) ≡ hub_after_record number s (hub_record_of d)
+  goes_on d reads = stands_append ps p s before ∙ ap (λ o. hub_after_record number s (option_and_then hub_record_of o)) reads
 
   -- ---- a change
 
   pub change_stands : (change : HubChangeTree) (h : HubTree) (words : List CarriedTree) → tree_of_text p ≡ Some (tree_of_hub_change change)
-      → all_counts_fit (edits_of change) ≡ true → all_numbers_fit (edits_of change) ≡ true → step_of s.forms s.hub change ≡ Some (Ok (h, words))
-      → stands_for (ps ++ p ∷ []) ≡ Ok (record s { hub = h; count = s.count + 1 })
+      → all_counts_fit (edits_of change) ≡ true → all_numbers_fit (edits_of change) ≡ true → hub_step_of s.forms s.hub change ≡ Some (Ok (h, words))
+      → stands_as_hub (ps ++ p ∷ []) ≡ Ok (record s { hub = h; count = s.count + 1 })
   change_stands change h words reads counts numbers steps =
-      goes_on (tree_of_hub_change change) reads ∙ ap (after_record number s) (change_read change counts numbers) ∙ ap (after_step number s) steps
+      goes_on (tree_of_hub_change change) reads ∙ ap (hub_after_record number s) (change_read change counts numbers) ∙ ap (hub_after_step number s) steps
 
   -- ---- a view more
 
   pub view_stands : (text : List ℕ) (program : ProgramTree) (l : FormTree) (h : HubTree) → tree_of_text p ≡ Some (tree_of_added (canonical program))
       → unbounded text ≡ Ok program → form_of_program (Ok program) ≡ Ok l → joins s.forms l ≡ true → view_more l s.hub ≡ Some h
-      → stands_for (ps ++ p ∷ []) ≡ Ok (record s { forms = s.forms ++ l ∷ []; hub = h })
+      → stands_as_hub (ps ++ p ∷ []) ≡ Ok (record s { forms = s.forms ++ l ∷ []; hub = h })
   view_stands text program l h reads is accepted_as may more =
       let again_read = read_again text program is in
       let form : form_of_text (canonical program) ≡ Some l = ap (λ r. accepted (form_of_program r)) again_read ∙ ap accepted accepted_as in
-      let stays : joining s.forms (Some l) ≡ Some l = if_true (joins s.forms l) (Some l) None may in
-      let with_it : with_form s l ≡ Some (record s { forms = s.forms ++ l ∷ []; hub = h }) = ap (option_map (λ (k : HubTree). record s { forms = s.forms ++ l ∷ []; hub = k })) more in
-      goes_on (tree_of_added (canonical program)) reads ∙ ap (after_add number s) form ∙ ap (λ o. after_view number (option_and_then (with_form s) o)) stays ∙ ap (after_view number) with_it
+      let stays : joining_form s.forms (Some l) ≡ Some l = if_true (joins s.forms l) (Some l) None may in
+      let with_it : with_view_form s l ≡ Some (record s { forms = s.forms ++ l ∷ []; hub = h }) = ap (option_map (λ (k : HubTree). record s { forms = s.forms ++ l ∷ []; hub = k })) more in
+      goes_on (tree_of_added (canonical program)) reads ∙ ap (after_add number s) form ∙ ap (λ o. after_view number (option_and_then (with_view_form s) o)) stays ∙ ap (after_view number) with_it
 
   -- ---- a snapshot
 
@@ -94,7 +94,7 @@ module _ (ps : List (List ℕ)) (p : List ℕ) (s : HubStanding) (before : stand
   hub_has ty l ls x (v ∷ vs) all = (v, all.1)
 
   snapshot_goes : (forms : List FormTree) (n : ℕ) (t : HubStanding) (h : HubTree) → t.forms ≡ forms → AllTyped forms → IsHub form_lens forms h → hub_holds_i64s h ≡ true
-      → after_record n t (record_of (tree_of_hub_snapshot forms h)) ≡ Ok (record t { hub = h })
+      → hub_after_record n t (hub_record_of (tree_of_hub_snapshot forms h)) ≡ Ok (record t { hub = h })
   snapshot_goes [] n t h is typed all whole = absurd all
   snapshot_goes (l ∷ ls) n t h is typed all whole =
       let ints = first (holds_i64s h.hub) (views_hold_i64s h.views) whole in
@@ -104,17 +104,17 @@ module _ (ps : List (List ℕ)) (p : List ℕ) (s : HubStanding) (before : stand
       let from : hub_from (l ∷ ls) (tree_of_document (left_type l) h.hub, items_of_views (l ∷ ls) h.views) ≡ Some h =
       rw (again (left_type l) h.hub typed_hub.left_has ints, views) refl in
       let test = all_consistent (left_type l) (l ∷ ls) h.hub h.views typed all in
-      ap (after_record n t) (snapshot_read l ls h)
+      ap (hub_after_record n t) (snapshot_read l ls h)
       ∙ ap (λ fs. after_hub n t (hub_from fs (tree_of_document (left_type l) h.hub, items_of_views (l ∷ ls) h.views))) is
       ∙ ap (after_hub n t) from
       ∙ if_true (are_consistent t.forms h.hub h.views) (Ok (record t { hub = h })) (Err (NotConsistent n)) (ap (λ fs. are_consistent fs h.hub h.views) is ∙ test)
 
   -- the snapshot of any hub that is in step with the lenses
   pub hub_stands : (h : HubTree) → tree_of_text p ≡ Some (tree_of_hub_snapshot s.forms h) → AllTyped s.forms → IsHub form_lens s.forms h → hub_holds_i64s h ≡ true
-      → stands_for (ps ++ p ∷ []) ≡ Ok (record s { hub = h })
+      → stands_as_hub (ps ++ p ∷ []) ≡ Ok (record s { hub = h })
   hub_stands h reads typed all whole =
       goes_on (tree_of_hub_snapshot s.forms h) reads ∙ snapshot_goes s.forms number s h refl typed all whole
 
   pub snapshot_stands : tree_of_text p ≡ Some (tree_of_hub_snapshot s.forms s.hub) → AllTyped s.forms → IsHub form_lens s.forms s.hub → hub_holds_i64s s.hub ≡ true
-      → stands_for (ps ++ p ∷ []) ≡ Ok s
+      → stands_as_hub (ps ++ p ∷ []) ≡ Ok s
   snapshot_stands reads typed all whole = hub_stands s.hub reads typed all whole

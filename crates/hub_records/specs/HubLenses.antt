@@ -1,5 +1,5 @@
 -- The lenses of a stored hub: what its first record says, and which lens a view more may have.
--- Read it from the end: `stored_forms`, `forms_of_items`, then `joining`.
+-- Read it from the end: `stored_forms`, `forms_of_items`, then `joining_form`.
 use Rattle.std.specs.Prelude.{ℕ, ◌&&◌, Bool, true, List, [], ◌∷◌, ◌++◌, length, Option, Some, None, option_map}
 use Rattle.std.specs.Prelude.{option_and_then, if◌then◌else◌, nat_lt}
 use Rattle.serde_json.specs.Data.{Data, Items, no_items, item}
@@ -17,13 +17,13 @@ joins [] l = true
 joins (first ∷ others) l = nat_lt (length (first ∷ others)) MOST_VIEWS && is_same_ty (left_type first) (left_type l)
 
 -- a lens that was found, if it may stand behind these
-abbrev pub joining : List FormTree → Option FormTree → Option FormTree
-joining before (Some l) = if joins before l then Some l else None
-joining before None = None
+abbrev pub joining_form : List FormTree → Option FormTree → Option FormTree
+joining_form before (Some l) = if joins before l then Some l else None
+joining_form before None = None
 
 -- these lenses, and behind them one that was found
 abbrev pub forms_more : List FormTree → Option FormTree → Option (List FormTree)
-forms_more before found = option_map (λ l. before ++ l ∷ []) (joining before found)
+forms_more before found = option_map (λ l. before ++ l ∷ []) (joining_form before found)
 
 -- the lens of the program whose text a tree is, a text of any length
 abbrev pub form_of_item : Data → Option FormTree

@@ -1,5 +1,5 @@
 -- The records of a hub as JSON: the tree of each record that the program writes, and what a tree is as a record.
--- From the end: `programs_of` and `record_of` read; `tree_of_programs`, `tree_of_added` and `tree_of_hub_snapshot`
+-- From the end: `programs_of` and `hub_record_of` read; `tree_of_programs`, `tree_of_added` and `tree_of_hub_snapshot`
 -- write, and `tree_of_hub_change` of `HubChanges`.
 use Rattle.std.specs.Prelude.{ℕ, ◌&&◌, Bool, false, List, [], ◌∷◌, Option, Some, None, option_map, option_and_then}
 use Rattle.std.specs.Prelude.{Result, Ok, Err, if◌then◌else◌, codes, bytes_eq, nat_eq}
@@ -12,9 +12,9 @@ use Rattle.value_json.specs.DocumentJson.{tree_of_document}
 use Rattle.edit_journal.specs.EntryJson.{LineFault, tree_of_text}
 use Rattle.lens_forms.specs.Forms.{FormTree, left_type, right_type}
 use Rattle.complement_file.specs.ComplementJson.{tree_of_complement}
-use Rattle.store_records.specs.RecordJson.{one_member}
+use Rattle.value_json.specs.SmallTrees.{one_member}
 use Rattle.view_hub.specs.Hubs.{ViewTree, HubTree}
-use Rattle.hub_records.specs.HubChanges.{HubChangeTree, change_of_tree}
+use Rattle.hub_records.specs.HubChanges.{HubChangeTree, hub_change_of_tree}
 
 -- ---- the records that the program writes
 
@@ -80,8 +80,8 @@ abbrev pub known_change : Result HubChangeTree LineFault → Option HubChangeTre
 known_change (Ok change) = Some change
 known_change (Err fault) = None
 
-abbrev pub change_in : Data → Option HubChangeTree
-change_in d = known_change (change_of_tree d)
+abbrev pub hub_change_in : Data → Option HubChangeTree
+hub_change_in d = known_change (hub_change_of_tree d)
 
 -- the text in an object with exactly the member `add`
 abbrev pub add_named : List ℕ × Data → Option (List ℕ)
@@ -95,11 +95,11 @@ abbrev pub hub_and_views : (List ℕ × Data) × (List ℕ × Data) → Option (
 hub_and_views m = if bytes_eq m.0.0 (codes "hub") && bytes_eq m.1.0 (codes "views")
     then option_map (λ ds. (m.0.1, ds)) (as_array m.1.1) else None
 
-abbrev pub snapshot_named : List ℕ × Data → Option (Data × Items)
-snapshot_named m = if bytes_eq m.0 (codes "snapshot") then option_and_then hub_and_views (two_members m.1) else None
+abbrev pub hub_snapshot_named : List ℕ × Data → Option (Data × Items)
+hub_snapshot_named m = if bytes_eq m.0 (codes "snapshot") then option_and_then hub_and_views (two_members m.1) else None
 
-abbrev pub snapshot_in : Data → Option (Data × Items)
-snapshot_in d = option_and_then snapshot_named (only_member d)
+abbrev pub hub_snapshot_in : Data → Option (Data × Items)
+hub_snapshot_in d = option_and_then hub_snapshot_named (only_member d)
 
 -- the trees of the complement and of the document of a view, of the members `complement` and `view`
 abbrev pub complement_and_view : (List ℕ × Data) × (List ℕ × Data) → Option (Data × Data)
@@ -110,11 +110,11 @@ abbrev pub view_parts : Data → Option (Data × Data)
 view_parts d = option_and_then complement_and_view (two_members d)
 
 -- the record of a tree: a change, a view more, or a snapshot
-abbrev pub record_of : Data → Option HubRecordTree
-record_of d =
-    option_or (option_map change_record (change_in d))
-    (option_or (option_map add_record (add_in d)) (option_map snapshot_record (snapshot_in d)))
+abbrev pub hub_record_of : Data → Option HubRecordTree
+hub_record_of d =
+    option_or (option_map change_record (hub_change_in d))
+    (option_or (option_map add_record (add_in d)) (option_map snapshot_record (hub_snapshot_in d)))
 
 -- the record of a payload
-abbrev pub record_in : List ℕ → Option HubRecordTree
-record_in payload = option_and_then record_of (tree_of_text payload)
+abbrev pub hub_record_in : List ℕ → Option HubRecordTree
+hub_record_in payload = option_and_then hub_record_of (tree_of_text payload)

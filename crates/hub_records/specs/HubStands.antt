@@ -1,5 +1,6 @@
 -- What payloads stand for where the store is a hub: lenses, a hub and a number of changes; or the first record that is
--- at fault. Read it from the end: `stands_for`, `after_record` with a line for each kind of record, and `HubStanding`.
+-- at fault. Read it from the end: `stands_as_hub`, `hub_after_record` with a line for each kind of record, and
+-- `HubStanding`.
 use Rattle.std.specs.Prelude.{ℕ, ◌+◌, ◌&&◌, Bool, true, false, List, [], ◌∷◌, ◌++◌, Option, Some, None, option_map}
 use Rattle.std.specs.Prelude.{option_and_then, Result, Ok, Err, if◌then◌else◌}
 use Rattle.serde_json.specs.Data.{Data, Items, no_items, item}
@@ -18,8 +19,8 @@ use Rattle.hub_run.specs.FormLenses.{form_lens}
 use Rattle.hub_run.specs.Runs.{hub_of}
 use Rattle.hub_records.specs.HubChanges.{HubChangeTree, edits_of}
 use Rattle.hub_records.specs.HubRecords.{HubRecordTree, change_record, add_record, snapshot_record, view_parts}
-use Rattle.hub_records.specs.HubRecords.{record_in}
-use Rattle.hub_records.specs.HubLenses.{joining, forms_of_payload}
+use Rattle.hub_records.specs.HubRecords.{hub_record_in}
+use Rattle.hub_records.specs.HubLenses.{joining_form, forms_of_payload}
 
 -- the forms of the views' lenses, the hub, and the number of change records
 pub record HubStanding : Type 0 where
@@ -30,14 +31,14 @@ pub record HubStanding : Type 0 where
 -- ---- a change
 
 -- what a change makes of a hub, for the lenses of these forms: its edits one after another, all of them or none
-abbrev pub step_of : List FormTree → HubTree → HubChangeTree → Option GroupStepped
-step_of forms h change = step_group form_lens forms h (edits_of change)
+abbrev pub hub_step_of : List FormTree → HubTree → HubChangeTree → Option GroupStepped
+hub_step_of forms h change = step_group form_lens forms h (edits_of change)
 
 -- the hub after a change that was accepted, counted once; a change that is refused is a bad record
-abbrev pub after_step : ℕ → HubStanding → Option GroupStepped → Result HubStanding RecordFault
-after_step number s (Some (Ok made)) = Ok (record s { hub = made.0; count = s.count + 1 })
-after_step number s (Some (Err why)) = Err (BadRecord number)
-after_step number s None = Err (BadRecord number)
+abbrev pub hub_after_step : ℕ → HubStanding → Option GroupStepped → Result HubStanding RecordFault
+hub_after_step number s (Some (Ok made)) = Ok (record s { hub = made.0; count = s.count + 1 })
+hub_after_step number s (Some (Err why)) = Err (BadRecord number)
+hub_after_step number s None = Err (BadRecord number)
 
 -- ---- a view more
 
@@ -46,8 +47,8 @@ abbrev pub view_more : FormTree → HubTree → Option HubTree
 view_more l h = add_view form_lens l (construct (left_type l) h.hub) h
 
 -- the lenses and the hub with the view of this form behind the others
-abbrev pub with_form : HubStanding → FormTree → Option HubStanding
-with_form s l = option_map (λ h. record s { forms = s.forms ++ l ∷ []; hub = h }) (view_more l s.hub)
+abbrev pub with_view_form : HubStanding → FormTree → Option HubStanding
+with_view_form s l = option_map (λ h. record s { forms = s.forms ++ l ∷ []; hub = h }) (view_more l s.hub)
 
 -- a lens that may not stand behind the others, or is none, is a bad record
 abbrev pub after_view : ℕ → Option HubStanding → Result HubStanding RecordFault
@@ -55,7 +56,7 @@ after_view number (Some s) = Ok s
 after_view number None = Err (BadRecord number)
 
 abbrev pub after_add : ℕ → HubStanding → Option FormTree → Result HubStanding RecordFault
-after_add number s found = after_view number (option_and_then (with_form s) (joining s.forms found))
+after_add number s found = after_view number (option_and_then (with_view_form s) (joining_form s.forms found))
 
 -- ---- a snapshot
 
@@ -93,34 +94,34 @@ after_hub number s None = Err (BadRecord number)
 
 -- A change is stepped, all of it or nothing. A view is added if its lens is accepted and may stand behind the others. A
 -- snapshot is taken if it is consistent. What is no record is a bad one.
-abbrev pub after_record : ℕ → HubStanding → Option HubRecordTree → Result HubStanding RecordFault
-after_record number s None = Err (BadRecord number)
-after_record number s (Some (change_record change)) = after_step number s (step_of s.forms s.hub change)
-after_record number s (Some (add_record text)) = after_add number s (form_of_text text)
-after_record number s (Some (snapshot_record p)) = after_hub number s (hub_from s.forms p)
+abbrev pub hub_after_record : ℕ → HubStanding → Option HubRecordTree → Result HubStanding RecordFault
+hub_after_record number s None = Err (BadRecord number)
+hub_after_record number s (Some (change_record change)) = hub_after_step number s (hub_step_of s.forms s.hub change)
+hub_after_record number s (Some (add_record text)) = after_add number s (form_of_text text)
+hub_after_record number s (Some (snapshot_record p)) = after_hub number s (hub_from s.forms p)
 
 -- the records from this number on, each from what stands after the one before it
-abbrev pub going_on : (HubStanding → Result HubStanding RecordFault) → Result HubStanding RecordFault
+abbrev pub hub_going_on : (HubStanding → Result HubStanding RecordFault) → Result HubStanding RecordFault
     → Result HubStanding RecordFault
-going_on others (Ok s) = others s
-going_on others (Err fault) = Err fault
+hub_going_on others (Ok s) = others s
+hub_going_on others (Err fault) = Err fault
 
-abbrev pub after_payloads : ℕ → HubStanding → List (List ℕ) → Result HubStanding RecordFault
-after_payloads number s [] = Ok s
-after_payloads number s (p ∷ ps) =
-    going_on (λ t. after_payloads (number + 1) t ps) (after_record number s (record_in p))
+abbrev pub hub_after_payloads : ℕ → HubStanding → List (List ℕ) → Result HubStanding RecordFault
+hub_after_payloads number s [] = Ok s
+hub_after_payloads number s (p ∷ ps) =
+    hub_going_on (λ t. hub_after_payloads (number + 1) t ps) (hub_after_record number s (hub_record_in p))
 
 -- ---- all records
 
 -- the hub of some lenses at its start, before any change
-abbrev pub at_start : List FormTree → HubStanding
-at_start forms = record { forms = forms; hub = hub_of forms; count = 0 }
+abbrev pub hub_at_start : List FormTree → HubStanding
+hub_at_start forms = record { forms = forms; hub = hub_of forms; count = 0 }
 
-abbrev pub from_opening : List (List ℕ) → Option (List FormTree) → Result HubStanding RecordFault
-from_opening ps (Some forms) = after_payloads 2 (at_start forms) ps
-from_opening ps None = Err (BadRecord 1)
+abbrev pub hub_from_opening : List (List ℕ) → Option (List FormTree) → Result HubStanding RecordFault
+hub_from_opening ps (Some forms) = hub_after_payloads 2 (hub_at_start forms) ps
+hub_from_opening ps None = Err (BadRecord 1)
 
 -- what payloads stand for; the records are numbered from 1 on
-abbrev pub stands_for : List (List ℕ) → Result HubStanding RecordFault
-stands_for [] = Err (BadRecord 1)
-stands_for (p ∷ ps) = from_opening ps (forms_of_payload p)
+abbrev pub stands_as_hub : List (List ℕ) → Result HubStanding RecordFault
+stands_as_hub [] = Err (BadRecord 1)
+stands_as_hub (p ∷ ps) = hub_from_opening ps (forms_of_payload p)

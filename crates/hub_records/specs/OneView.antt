@@ -10,7 +10,7 @@ use Rattle.edit_session.specs.Step.{TripleTree, Stepped, AllStepped}
 use Rattle.lens_core.specs.Translation.{translate}
 use Rattle.lens_forms.specs.Forms.{FormTree, left_type, right_type}
 use Rattle.view_hub.specs.Groups.{GroupStepped, step_group}
-use Rattle.view_hub.specs.Hubs.{HubTree, Place, at_hub, at_view, CarriedTree, Refusal, no_apply, step}
+use Rattle.view_hub.specs.Hubs.{HubTree, Place, at_hub, at_view, CarriedTree, ViewRefusal, no_apply, step}
 use Rattle.hub_run.specs.FormLenses.{form_lens}
 
 -- the hub with one view of a triple
@@ -32,7 +32,7 @@ acting_each (e ∷ es) (w ∷ ws) = acting e w ∷ acting_each es ws
 acting_each _ _ = []
 
 -- what a step of the session is to the hub
-abbrev pub hub_stepped : Side × WordTree → Stepped → Result (HubTree × CarriedTree) Refusal
+abbrev pub hub_stepped : Side × WordTree → Stepped → Result (HubTree × CarriedTree) ViewRefusal
 hub_stepped e (Ok s) = Ok (hub_of_triple s.0, acting e s.1)
 hub_stepped e (Err why) = Err (no_apply why.0 why.1)
 

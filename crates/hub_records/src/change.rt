@@ -5,9 +5,9 @@ ghost use Rattle.serde_json.specs.View.{view, items_view};
 ghost use Rattle.edit_journal.specs.EntryJson.{tree_of_text};
 ghost use Rattle.edit_journal.specs.Reading.{Gives};
 ghost use Rattle.view_hub.specs.Views.{edit_trees};
-ghost use Rattle.hub_records.specs.HubChanges.{all_counts_fit, are_edits, change_of_line, change_of_text};
-ghost use Rattle.hub_records.specs.HubChanges.{change_of_tree, edits_of, edits_of_items, group_of_items};
-ghost use Rattle.hub_records.specs.HubRecords.{change_in};
+ghost use Rattle.hub_records.specs.HubChanges.{all_counts_fit, are_edits, hub_change_of_line, hub_change_of_text};
+ghost use Rattle.hub_records.specs.HubChanges.{hub_change_of_tree, edits_of, edits_of_items, hub_group_of_items};
+ghost use Rattle.hub_records.specs.HubRecords.{hub_change_in};
 ghost use Rattle.hub_records.specs.Views.{hub_change_tree};
 
 use edit_journal::{EntryFault, Line, group_items, read_tree};
@@ -53,7 +53,7 @@ impl HubChange {
 /// `NoMemory` says nothing of the line.
 pub fn read_hub_change(alloc: Global, line: &Line) -> Result<HubChange, EntryFault>
     // The change and each refusal are the definition's, both ways.
-    ensures change { Gives hub_change_tree result (change_of_line line.now) }
+    ensures change { Gives hub_change_tree result (hub_change_of_line line.now) }
 
     // What is read has a tree.
     ensures fits { IfOk result (λ change. all_counts_fit (edits_of (hub_change_tree change)) ≡ true) }
@@ -62,7 +62,7 @@ pub fn read_hub_change(alloc: Global, line: &Line) -> Result<HubChange, EntryFau
 }
 
 fn read_line(alloc: Global, line: &Line) -> Result<HubChange, EntryFault>
-    ensures { Gives hub_change_tree result (change_of_line line.now) }
+    ensures { Gives hub_change_tree result (hub_change_of_line line.now) }
 {
     match line {
         Line::Text(bytes) => read_text(alloc, bytes.as_slice()),
@@ -71,7 +71,7 @@ fn read_line(alloc: Global, line: &Line) -> Result<HubChange, EntryFault>
 }
 
 fn read_text(alloc: Global, bytes: &[u8]) -> Result<HubChange, EntryFault>
-    ensures { Gives hub_change_tree result (change_of_text bytes.now) }
+    ensures { Gives hub_change_tree result (hub_change_of_text bytes.now) }
 {
     let tree = read_tree(alloc, bytes)?;
     read_change(alloc, &tree)
@@ -83,7 +83,7 @@ fn read_text(alloc: Global, bytes: &[u8]) -> Result<HubChange, EntryFault>
 /// count. Fails only if memory runs out.
 pub fn change_of_payload(alloc: Global, payload: &[u8]) -> Result<Option<HubChange>, AllocError>
     ensures { IfOk result (λ change. option_map hub_change_tree change
-        ≡ option_and_then change_in (tree_of_text payload.now)) }
+        ≡ option_and_then hub_change_in (tree_of_text payload.now)) }
 {
     match read_payload(alloc, payload)? {
         Some(tree) => change_in(alloc, &tree),
@@ -95,7 +95,7 @@ pub fn change_of_payload(alloc: Global, payload: &[u8]) -> Result<Option<HubChan
 ///
 /// None if and only if the tree is neither an edit nor a group of edits. Fails only if memory runs out.
 pub fn change_in(alloc: Global, tree: &Value) -> Result<Option<HubChange>, AllocError>
-    ensures { IfOk result (λ change. option_map hub_change_tree change ≡ change_in (view tree.now)) }
+    ensures { IfOk result (λ change. option_map hub_change_tree change ≡ hub_change_in (view tree.now)) }
 {
     match read_change(alloc, tree) {
         Ok(change) => Ok(Some(change)),
@@ -106,7 +106,7 @@ pub fn change_in(alloc: Global, tree: &Value) -> Result<Option<HubChange>, Alloc
 
 // A group where the tree has the form of one, and otherwise a single edit.
 fn read_change(alloc: Global, tree: &Value) -> Result<HubChange, EntryFault>
-    ensures { Gives hub_change_tree result (change_of_tree (view tree.now)) }
+    ensures { Gives hub_change_tree result (hub_change_of_tree (view tree.now)) }
 {
     match group_items(tree) {
         Some(items) => Ok(HubChange::Group(read_group(alloc, items)?)),
@@ -116,7 +116,7 @@ fn read_change(alloc: Global, tree: &Value) -> Result<HubChange, EntryFault>
 
 // The edits of a group of these trees. The form of each is tested before any word is read.
 fn read_group(alloc: Global, items: &[Value]) -> Result<Vec<(HubSide, Word)>, EntryFault>
-    ensures { Gives (λ edits. edit_trees edits.items) result (group_of_items (items_view items.now)) }
+    ensures { Gives (λ edits. edit_trees edits.items) result (hub_group_of_items (items_view items.now)) }
 {
     if !are_edits(items) {
         return Err(EntryFault::NotAnEntry);

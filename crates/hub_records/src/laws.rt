@@ -21,8 +21,8 @@ ghost use Rattle.hub_run.specs.FoundLenses.{AllTyped};
 ghost use Rattle.hub_records.specs.HubChanges.{HubChangeTree, all_counts_fit, all_numbers_fit, edits_of};
 ghost use Rattle.hub_records.specs.HubChanges.{tree_of_hub_change};
 ghost use Rattle.hub_records.specs.HubLenses.{joins};
-ghost use Rattle.hub_records.specs.HubRecords.{record_in, tree_of_added, tree_of_hub_snapshot};
-ghost use Rattle.hub_records.specs.HubStands.{HubStanding, after_record, stands_for, step_of, view_more};
+ghost use Rattle.hub_records.specs.HubRecords.{hub_record_in, tree_of_added, tree_of_hub_snapshot};
+ghost use Rattle.hub_records.specs.HubStands.{HubStanding, hub_after_record, stands_as_hub, hub_step_of, view_more};
 ghost use Rattle.hub_records.specs.LowForms.{AllLow};
 ghost use Rattle.hub_records.specs.OneView.{IsSessionGroup, IsSessionStep};
 ghost use Rattle.hub_records.specs.WholeInts.{hub_holds_i64s};
@@ -30,9 +30,9 @@ ghost use Rattle.hub_records.specs.WholeInts.{hub_holds_i64s};
 /// One more record goes on from what stands before it.
 pub fn one_more_record()
     ensures { (payloads : List (List ℕ)) (payload : List ℕ) (before : HubStanding)
-        → stands_for payloads ≡ Ok before
-        → stands_for (payloads ++ payload ∷ [])
-        ≡ after_record (length payloads + 1) before (record_in payload) }
+        → stands_as_hub payloads ≡ Ok before
+        → stands_as_hub (payloads ++ payload ∷ [])
+        ≡ hub_after_record (length payloads + 1) before (hub_record_in payload) }
 {}
 
 /// What the program writes behind a hub that stands, stands too: a change that is accepted, which counts one; a view
@@ -40,34 +40,34 @@ pub fn one_more_record()
 pub fn written_records_stand()
     ensures change { (payloads : List (List ℕ)) (payload : List ℕ) (before : HubStanding)
         (change : HubChangeTree) (hub : HubTree) (words : List CarriedTree)
-        → stands_for payloads ≡ Ok before
+        → stands_as_hub payloads ≡ Ok before
         → tree_of_text payload ≡ Some (tree_of_hub_change change)
         → all_counts_fit (edits_of change) ≡ true → all_numbers_fit (edits_of change) ≡ true
-        → step_of before.forms before.hub change ≡ Some (Ok (hub, words))
-        → stands_for (payloads ++ payload ∷ [])
+        → hub_step_of before.forms before.hub change ≡ Some (Ok (hub, words))
+        → stands_as_hub (payloads ++ payload ∷ [])
         ≡ Ok (record before { hub = hub; count = before.count + 1 }) }
     ensures view { (payloads : List (List ℕ)) (payload : List ℕ) (before : HubStanding)
         (text : List ℕ) (program : ProgramTree) (form : FormTree) (hub : HubTree)
-        → stands_for payloads ≡ Ok before
+        → stands_as_hub payloads ≡ Ok before
         → tree_of_text payload ≡ Some (tree_of_added (canonical program))
         → unbounded text ≡ Ok program → form_of_program (Ok program) ≡ Ok form
         → joins before.forms form ≡ true → view_more form before.hub ≡ Some hub
-        → stands_for (payloads ++ payload ∷ [])
+        → stands_as_hub (payloads ++ payload ∷ [])
         ≡ Ok (record before { forms = before.forms ++ form ∷ []; hub = hub }) }
     ensures snapshot { (payloads : List (List ℕ)) (payload : List ℕ) (before : HubStanding)
-        → stands_for payloads ≡ Ok before
+        → stands_as_hub payloads ≡ Ok before
         → tree_of_text payload ≡ Some (tree_of_hub_snapshot before.forms before.hub)
         → AllTyped before.forms → IsHub form_lens before.forms before.hub
         → hub_holds_i64s before.hub ≡ true
-        → stands_for (payloads ++ payload ∷ []) ≡ Ok before }
+        → stands_as_hub (payloads ++ payload ∷ []) ≡ Ok before }
 {}
 
 /// What stands is in step: all lenses are typed, and each view's complement and document are in its lens's relation
 /// with the hub's document.
 pub fn stood_is_in_step()
-    ensures typed { (payloads : List (List ℕ)) (standing : HubStanding) → stands_for payloads ≡ Ok standing
+    ensures typed { (payloads : List (List ℕ)) (standing : HubStanding) → stands_as_hub payloads ≡ Ok standing
         → AllTyped standing.forms }
-    ensures in_step { (payloads : List (List ℕ)) (standing : HubStanding) → stands_for payloads ≡ Ok standing
+    ensures in_step { (payloads : List (List ℕ)) (standing : HubStanding) → stands_as_hub payloads ≡ Ok standing
         → IsHub form_lens standing.forms standing.hub }
 {}
 
@@ -75,7 +75,7 @@ pub fn stood_is_in_step()
 pub fn accepted_changes_are_shallow()
     ensures { (forms : List FormTree) (before after : HubTree) (change : HubChangeTree)
         (words : List CarriedTree) → AllLow forms
-        → step_of forms before change ≡ Some (Ok (after, words))
+        → hub_step_of forms before change ≡ Some (Ok (after, words))
         → depth (tree_of_hub_change change) ≤ max_depth }
 {}
 

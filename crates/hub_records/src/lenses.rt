@@ -7,7 +7,7 @@ ghost use Rattle.store_records.specs.StoredLens.{form_of_text};
 ghost use Rattle.view_hub.specs.Laws.{HaveOneLeftType};
 ghost use Rattle.view_hub.specs.Views.{hub_tree};
 ghost use Rattle.hub_run.specs.RunStates.{forms_of_lenses, ready_lens};
-ghost use Rattle.hub_records.specs.HubLenses.{form_of_item, forms_of_items, forms_of_payload, joining, joins};
+ghost use Rattle.hub_records.specs.HubLenses.{form_of_item, forms_of_items, forms_of_payload, joining_form, joins};
 ghost use Rattle.hub_records.specs.HubStands.{view_more};
 ghost use Rattle.hub_records.specs.OneLeftType.{HasOneLeft};
 
@@ -64,7 +64,7 @@ fn lenses_of_items(alloc: Global, items: &[Value]) -> Result<Option<Vec<Flat>>, 
 // The lens of the program whose text a tree is, where it may stand behind these.
 fn lens_of_item(alloc: Global, before: &[Flat], item: &Value) -> Result<Option<Flat>, AllocError>
     ensures form { IfOk result (λ o. option_map (λ l. form_tree l.typed) o
-        ≡ joining (forms_of_lenses before.now) (form_of_item (view item.now))) }
+        ≡ joining_form (forms_of_lenses before.now) (form_of_item (view item.now))) }
     ensures one_left { HasOneLeft before.now → IfOk result (λ o.
         IfSome o (λ l. HaveOneLeftType ready_lens (before.now ++ l ∷ []))) }
 {
@@ -81,7 +81,7 @@ fn lens_of_item(alloc: Global, before: &[Flat], item: &Value) -> Result<Option<F
 #[tactic(auto, using(crate::proofs::JoiningForms::joining_rules))]
 pub fn joining_lens(alloc: Global, before: &[Flat], text: &str) -> Result<Option<Flat>, AllocError>
     ensures form { IfOk result (λ o. option_map (λ l. form_tree l.typed) o
-        ≡ joining (forms_of_lenses before.now) (form_of_text text.now)) }
+        ≡ joining_form (forms_of_lenses before.now) (form_of_text text.now)) }
     ensures one_left { HasOneLeft before.now → IfOk result (λ o.
         IfSome o (λ l. HaveOneLeftType ready_lens (before.now ++ l ∷ []))) }
 {

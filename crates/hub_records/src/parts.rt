@@ -5,7 +5,7 @@ ghost use Rattle.serde_json.specs.Find.{as_array};
 ghost use Rattle.serde_json.specs.View.{view, items_view};
 ghost use Rattle.value_json.specs.Numbers.{count_of};
 ghost use Rattle.hub_records.specs.HubRecords.{add_in, is_first_version};
-ghost use Rattle.hub_records.specs.HubRecords.{programs_of, snapshot_in, view_parts};
+ghost use Rattle.hub_records.specs.HubRecords.{programs_of, hub_snapshot_in, view_parts};
 
 use serde_json::Value;
 use value_json::{only_member, read_count, two_members};
@@ -69,7 +69,7 @@ pub fn add_in(tree: &Value) -> Option<&str>
 ///
 /// None if and only if the tree is not that of a snapshot.
 pub fn snapshot_in(tree: &Value) -> Option<(&Value, &[Value])>
-    ensures { option_map (λ p. (view p.0.now, items_view p.1.now)) result ≡ snapshot_in (view tree.now) }
+    ensures { option_map (λ p. (view p.0.now, items_view p.1.now)) result ≡ hub_snapshot_in (view tree.now) }
 {
     let (name, content) = only_member(tree)?;
     if name != "snapshot" {

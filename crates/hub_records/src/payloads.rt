@@ -8,10 +8,10 @@ ghost use Rattle.serde_json.specs.Written.{compact_text};
 ghost use Rattle.edit_journal.specs.EntryJson.{tree_of_text};
 ghost use Rattle.edit_json.specs.Tokens.{tokens_of};
 ghost use Rattle.edit_module.specs.Views.{word_tree};
-ghost use Rattle.hub_run.specs.EditJson.{place_fits, tree_of_edit, tree_of_place};
+ghost use Rattle.hub_run.specs.EditJson.{hub_place_fits, tree_of_edit, tree_of_hub_place};
 ghost use Rattle.program_terms.specs.Views.{program_tree};
 ghost use Rattle.program_writing.specs.Canonical.{canonical};
-ghost use Rattle.view_hub.specs.Views.{edit_trees, place_of};
+ghost use Rattle.view_hub.specs.Views.{edit_trees, place_of_side};
 ghost use Rattle.hub_records.specs.HubChanges.{all_counts_fit, all_numbers_fit, edit_fits, edits_of, group};
 ghost use Rattle.hub_records.specs.HubChanges.{items_of_edits, tree_of_hub_change};
 ghost use Rattle.hub_records.specs.HubRecords.{items_of_texts, tree_of_added, tree_of_programs};
@@ -163,8 +163,8 @@ fn put_edits(out: &mut Writer, edits: &[(HubSide, Word)]) -> Result<(), AllocErr
 fn put_edit(out: &mut Writer, side: HubSide, word: &Word) -> Result<(), AllocError>
     ensures before { out.new.before ≡ out.old.before }
     ensures tokens { OnOk result (out.new.tokens
-        ≡ out.old.tokens ++ tokens_of (tree_of_edit (place_of side, word_tree word.now))) }
-    ensures numbers { OnOk result (edit_fits (place_of side, word_tree word.now) ≡ true) }
+        ≡ out.old.tokens ++ tokens_of (tree_of_edit (place_of_side side, word_tree word.now))) }
+    ensures numbers { OnOk result (edit_fits (place_of_side side, word_tree word.now) ≡ true) }
 {
     out.begin_object()?;
     out.key("at")?;
@@ -177,8 +177,8 @@ fn put_edit(out: &mut Writer, side: HubSide, word: &Word) -> Result<(), AllocErr
 fn put_place(out: &mut Writer, side: HubSide) -> Result<(), AllocError>
     ensures before { out.new.before ≡ out.old.before }
     ensures tokens { OnOk result (out.new.tokens
-        ≡ out.old.tokens ++ tokens_of (tree_of_place (place_of side))) }
-    ensures fits { OnOk result (place_fits (place_of side) ≡ true) }
+        ≡ out.old.tokens ++ tokens_of (tree_of_hub_place (place_of_side side))) }
+    ensures fits { OnOk result (hub_place_fits (place_of_side side) ≡ true) }
 {
     match side {
         HubSide::Hub => out.string("hub"),

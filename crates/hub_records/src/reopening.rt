@@ -5,8 +5,8 @@ ghost use Rattle.serde_json.specs.View.{view, items_view};
 ghost use Rattle.view_hub.specs.Views.{hub_tree};
 ghost use Rattle.hub_run.specs.RunStates.{IsHubOf};
 ghost use Rattle.hub_records.specs.HubLenses.{forms_of_payload};
-ghost use Rattle.hub_records.specs.HubRecords.{record_in, change_record, add_record, snapshot_record};
-ghost use Rattle.hub_records.specs.HubStands.{after_record, at_start, stands_for};
+ghost use Rattle.hub_records.specs.HubRecords.{hub_record_in, change_record, add_record, snapshot_record};
+ghost use Rattle.hub_records.specs.HubStands.{hub_after_record, hub_at_start, stands_as_hub};
 ghost use Rattle.hub_records.specs.Outcomes.{IsFirstFault, IsStandFault, Reaches};
 ghost use Rattle.hub_records.specs.Views.{hub_change_tree, hub_standing};
 
@@ -48,8 +48,8 @@ pub struct OpenedHub {
 #[tactic(auto, using(crate::proofs::Openings::first_rules))]
 pub fn reopen_hub(alloc: Global, records: &[Bytes]) -> Result<OpenedHub, RecordFault>
     ensures stands { MatchResult result
-        (λ opened. stands_for records.now ≡ Ok (hub_standing opened.hub opened.count))
-        (IsStandFault (stands_for records.now)) }
+        (λ opened. stands_as_hub records.now ≡ Ok (hub_standing opened.hub opened.count))
+        (IsStandFault (stands_as_hub records.now)) }
 
     // The hub is in step, whatever the payloads are.
     ensures in_step { IfOk result (λ opened.
@@ -73,8 +73,8 @@ pub fn reopen_first_hub(
     requires some { 0 < length records.now → 0 < kept }
     requires within { kept ≤ length records.now }
     ensures stands { MatchResult result
-        (λ opened. stands_for (take kept records.now) ≡ Ok (hub_standing opened.hub opened.count))
-        (IsStandFault (stands_for records.now)) }
+        (λ opened. stands_as_hub (take kept records.now) ≡ Ok (hub_standing opened.hub opened.count))
+        (IsStandFault (stands_as_hub records.now)) }
     ensures count { IfOk result (λ opened. opened.count ≤ kept) }
 {
     if records.is_empty() {
@@ -96,9 +96,9 @@ pub fn go_on_hub(
     opened: &mut OpenedHub,
 ) -> Result<(), RecordFault>
     requires within { kept ≤ length records.now }
-    requires stood { stands_for (take kept records.now) ≡ Ok (hub_standing opened.old.hub opened.old.count) }
+    requires stood { stands_as_hub (take kept records.now) ≡ Ok (hub_standing opened.old.hub opened.old.count) }
     requires count { opened.old.count ≤ kept }
-    ensures stands { Reaches result (stands_for records.now) (hub_standing opened.new.hub opened.new.count) }
+    ensures stands { Reaches result (stands_as_hub records.now) (hub_standing opened.new.hub opened.new.count) }
 {
     take_records(alloc, records, kept, records.len(), opened)
 }
@@ -106,7 +106,7 @@ pub fn go_on_hub(
 // The hub before any change, for this first payload.
 fn begin(alloc: Global, payload: &[u8]) -> Result<OpenedHub, RecordFault>
     ensures stands { MatchResult result
-        (λ o. option_map at_start (forms_of_payload payload.now) ≡ Some (hub_standing o.hub o.count))
+        (λ o. option_map hub_at_start (forms_of_payload payload.now) ≡ Some (hub_standing o.hub o.count))
         (IsFirstFault (forms_of_payload payload.now)) }
     ensures count { IfOk result (λ o. o.count ≡ 0) }
 {
@@ -127,11 +127,11 @@ fn take_records(
 ) -> Result<(), RecordFault>
     requires order { from ≤ to }
     requires within { to ≤ length records.now }
-    requires stood { stands_for (take from records.now) ≡ Ok (hub_standing opened.old.hub opened.old.count) }
+    requires stood { stands_as_hub (take from records.now) ≡ Ok (hub_standing opened.old.hub opened.old.count) }
     requires count { opened.old.count ≤ from }
     ensures stands { MatchResult result
-        (λ _. stands_for (take to records.now) ≡ Ok (hub_standing opened.new.hub opened.new.count))
-        (IsStandFault (stands_for records.now)) }
+        (λ _. stands_as_hub (take to records.now) ≡ Ok (hub_standing opened.new.hub opened.new.count))
+        (IsStandFault (stands_as_hub records.now)) }
     ensures count { IfOk result (λ _. opened.new.count ≤ to) }
 {
     for at in from..to {
@@ -149,7 +149,7 @@ fn take_record(
 ) -> Result<(), RecordFault>
     requires count { opened.old.count < number }
     ensures stands { Reaches result
-        (after_record number (hub_standing opened.old.hub opened.old.count) (record_in payload.now))
+        (hub_after_record number (hub_standing opened.old.hub opened.old.count) (hub_record_in payload.now))
         (hub_standing opened.new.hub opened.new.count) }
     ensures count { opened.new.count ≤ opened.old.count + 1 }
 {
@@ -173,7 +173,7 @@ fn take_record(
 fn take_change(number: u64, change: &HubChange, opened: &mut OpenedHub) -> Result<(), RecordFault>
     requires count { opened.old.count < number }
     ensures stands { Reaches result
-        (after_record number (hub_standing opened.old.hub opened.old.count)
+        (hub_after_record number (hub_standing opened.old.hub opened.old.count)
         (Some (change_record (hub_change_tree change.now))))
         (hub_standing opened.new.hub opened.new.count) }
     ensures count { opened.new.count ≤ opened.old.count + 1 }
@@ -198,7 +198,7 @@ fn take_added(
     hub: &mut Hub<Flat>,
 ) -> Result<(), RecordFault>
     ensures stands { (count : ℕ) → Reaches result
-        (after_record number (hub_standing hub.old count) (Some (add_record text.now)))
+        (hub_after_record number (hub_standing hub.old count) (Some (add_record text.now)))
         (hub_standing hub.new count) }
 {
     is_in_step(hub);
@@ -219,7 +219,7 @@ fn take_snapshot(
     hub: &mut Hub<Flat>,
 ) -> Result<(), RecordFault>
     ensures stands { (count : ℕ) → Reaches result
-        (after_record number (hub_standing hub.old count)
+        (hub_after_record number (hub_standing hub.old count)
         (Some (snapshot_record (view document.now, items_view views.now))))
         (hub_standing hub.new count) }
 {

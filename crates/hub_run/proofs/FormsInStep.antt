@@ -21,7 +21,7 @@ use Rattle.hub_run.specs.EditJson.{edit_of_line}
 use Rattle.hub_run.specs.FormLenses.{form_lens, lens_by}
 use Rattle.hub_run.specs.FoundLenses.{AllTyped}
 use Rattle.hub_run.specs.HubScript.{hub_script}
-use Rattle.hub_run.specs.Runs.{HubItem, take_hub_item, HubState, answered, answer, hub_of, first_state, IsInStep}
+use Rattle.hub_run.specs.Runs.{HubItem, take_hub_item, HubState, hub_answered, hub_answer, hub_of, first_state, IsHubInStep}
 use Rattle.hub_run.proofs.FoundForms.{accepted_forms}
 use Rattle.hub_run.proofs.MappedLenses.{items_are, first_views}
 use Rattle.hub_run.proofs.RunsInStep.{item_stays}
@@ -89,12 +89,12 @@ typed_stays ls h item all =
 pub forms_stay : (forms : List FormTree) → AllTyped forms → ItemStays forms
 forms_stay forms all = subst ItemStays (forms_back forms all) (typed_stays (with_types forms all))
 
-state_stays : (forms : List FormTree) → AllTyped forms → (t : HubState) (n : ℕ) (line : Line) → is_blank line ≡ false → IsInStep forms t
-    → (s : HubState × Answer) × (answer t n line ≡ Some s) × IsInStep forms s.0
+state_stays : (forms : List FormTree) → AllTyped forms → (t : HubState) (n : ℕ) (line : Line) → is_blank line ≡ false → IsHubInStep forms t
+    → (s : HubState × Answer) × (hub_answer t n line ≡ Some s) × IsHubInStep forms s.0
 state_stays forms all t n line not_blank kept =
     let s = subst (λ fs. (s : HubTree × HubAnswerTree) × (take_hub_item form_lens fs t.hub (edit_of_line line) ≡ Some s) × FormHub forms s.0) (sym kept.0)
     (forms_stay forms all t.hub (edit_of_line line) kept.1) in
-    (answered t.forms n s.0, ap (option_map (answered t.forms n)) s.1, (kept.0, s.2))
+    (hub_answered t.forms n s.0, ap (option_map (hub_answered t.forms n)) s.1, (kept.0, s.2))
 
 -- ---- the start
 
@@ -117,4 +117,4 @@ forms_start forms all one =
 pub accepted_in_step : EveryRunStaysInStep hub_script
 accepted_in_step part forms is lines =
     let a = accepted_forms part forms is in
-    every_run answer (IsInStep forms) (state_stays forms a.0) (first_state forms) (refl, forms_start forms a.0 a.1) lines
+    every_run hub_answer (IsHubInStep forms) (state_stays forms a.0) (first_state forms) (refl, forms_start forms a.0 a.1) lines

@@ -10,7 +10,7 @@ use Rattle.script_input.specs.Parts.{HoldsPart}
 use Rattle.hub_run.specs.HeldPieces.{HoldsEach, HoldsUnless}
 use Rattle.hub_run.specs.Lenses.{too_many_views, form_of_view, first_left, then_forms, forms_from, forms_of}
 use Rattle.hub_run.specs.FormLenses.{form_lens}
-use Rattle.hub_run.specs.FoundLenses.{HasLeft, IsRefused}
+use Rattle.hub_run.specs.FoundLenses.{HasLeft, IsRefusedHub}
 use Rattle.script_input.specs.declared.script.ProgramText.{ProgramText}
 use Rattle.hub_run.specs.declared.pieces.TheConstants.{MOST_VIEWS}
 use Rattle.hub_run.specs.declared.views.HubRefused.{HubRefused}
@@ -44,7 +44,7 @@ each_length (k ∷ kept) (piece ∷ pieces) h = ap suc (each_length kept pieces 
 
 -- a view that is refused refuses all
 refused_all : (text : List ℕ) (others : List (List ℕ)) (before : List FormTree) (refused : HubRefused)
-    → IsRefused (form_of_view (first_left before) (length before) text) refused → IsRefused (forms_from (text ∷ others) before) refused
+    → IsRefusedHub (form_of_view (first_left before) (length before) text) refused → IsRefusedHub (forms_from (text ∷ others) before) refused
 refused_all text others before TooManyViews h = (h.0, ap (then_forms (forms_from others) before) h.1, h.2)
 refused_all text others before (InView v refused) h = (h.0, ap (then_forms (forms_from others) before) h.1, h.2)
 refused_all text others before (ViewsDiffer v) h = (h.0, ap (then_forms (forms_from others) before) h.1, h.2)
@@ -69,12 +69,12 @@ view_found kept ended i k before after lens begun within k_is holds found more =
 
 pub view_not_found : (kept : List ProgramText) (ended : List (List ℕ)) (i : ℕ) (k : ProgramText) (before : List Typed) (begun : List ℕ) (refused : HubRefused)
     → i < length kept → k ≡ get_or kept i k → HoldsEach kept ended
-    → ((text : List ℕ) → HoldsPart k text → IsRefused (form_of_view (first_left (map form_tree before)) (length before) text) refused)
-    → IsRefused (forms_from (drop i ended ++ begun ∷ []) (map form_tree before)) refused
+    → ((text : List ℕ) → HoldsPart k text → IsRefusedHub (form_of_view (first_left (map form_tree before)) (length before) text) refused)
+    → IsRefusedHub (forms_from (drop i ended ++ begun ∷ []) (map form_tree before)) refused
 view_not_found kept ended i k before begun refused within k_is holds found =
     let p = subst (λ q. PieceAt q ended i) (sym k_is) (piece_at kept ended i k within holds) in
-    let here = subst (λ n. IsRefused (form_of_view (first_left (map form_tree before)) n p.text) refused) (sym (length-map before form_tree)) (found p.text p.holds) in
-    subst (λ ps. IsRefused (forms_from (ps ++ begun ∷ []) (map form_tree before)) refused) (sym p.is) (refused_all p.text (drop (i + 1) ended ++ begun ∷ []) (map form_tree before) refused here)
+    let here = subst (λ n. IsRefusedHub (form_of_view (first_left (map form_tree before)) n p.text) refused) (sym (length-map before form_tree)) (found p.text p.holds) in
+    subst (λ ps. IsRefusedHub (forms_from (ps ++ begun ∷ []) (map form_tree before)) refused) (sym p.is) (refused_all p.text (drop (i + 1) ended ++ begun ∷ []) (map form_tree before) refused here)
 
 -- ---- the view of the piece that has begun, which is the last
 
@@ -88,10 +88,10 @@ last_found kept ended i before after lens begun past holds found more =
     ap (λ ps. forms_from ps (map form_tree before)) (only_begun kept ended i begun past holds) ∙ joins begun [] before after lens found more
 
 pub last_not_found : (kept : List ProgramText) (ended : List (List ℕ)) (i : ℕ) (before : List Typed) (begun : List ℕ) (refused : HubRefused) → length kept ≤ i → HoldsEach kept ended
-    → IsRefused (form_of_view (first_left (map form_tree before)) (length before) begun) refused → IsRefused (forms_from (drop i ended ++ begun ∷ []) (map form_tree before)) refused
+    → IsRefusedHub (form_of_view (first_left (map form_tree before)) (length before) begun) refused → IsRefusedHub (forms_from (drop i ended ++ begun ∷ []) (map form_tree before)) refused
 last_not_found kept ended i before begun refused past holds found =
-    let here = subst (λ n. IsRefused (form_of_view (first_left (map form_tree before)) n begun) refused) (sym (length-map before form_tree)) found in
-    subst (λ ps. IsRefused (forms_from ps (map form_tree before)) refused) (sym (only_begun kept ended i begun past holds)) (refused_all begun [] (map form_tree before) refused here)
+    let here = subst (λ n. IsRefusedHub (form_of_view (first_left (map form_tree before)) n begun) refused) (sym (length-map before form_tree)) found in
+    subst (λ ps. IsRefusedHub (forms_from ps (map form_tree before)) refused) (sym (only_begun kept ended i begun past holds)) (refused_all begun [] (map form_tree before) refused here)
 
 -- ---- how many pieces there are
 

@@ -11,11 +11,11 @@ use Rattle.view_hub.specs.Hubs.{HubTree, start_hub, first_hub}
 use Rattle.view_hub.specs.Laws.{SameLeft, HaveOneLeftType}
 use Rattle.view_hub.specs.Views.{HubOf, hub_tree}
 use Rattle.hub_run.specs.FormLenses.{form_lens}
-use Rattle.hub_run.specs.FoundLenses.{IsRefusalOf, IsRefused}
+use Rattle.hub_run.specs.FoundLenses.{IsRefusalOf, IsRefusedHub}
 use Rattle.hub_run.specs.HubHeads.{HasPieces}
 use Rattle.hub_run.specs.HubScript.{hub_script}
-use Rattle.hub_run.specs.Lenses.{HubRefusal, forms_of, lenses_of, refusal_line}
-use Rattle.hub_run.specs.RunStates.{forms_of_lenses, ready_lens, state_of}
+use Rattle.hub_run.specs.Lenses.{HubRefusal, forms_of, lenses_of, hub_refusal_line}
+use Rattle.hub_run.specs.RunStates.{forms_of_lenses, ready_lens, hub_state_of}
 use Rattle.hub_run.specs.Runs.{hub_of, first_state}
 use Rattle.hub_run.specs.declared.pieces.Pieces.{Pieces}
 use Rattle.hub_run.specs.declared.views.HubRefused.{HubRefused}
@@ -59,18 +59,18 @@ started_hub (Err e) ls forms same is = tt
 -- ---- a program part that is opened
 
 pub opens : (part : List ℕ) (forms : List FormTree) (r : Result (HubOf ReadyForm) NotOpened) → lenses_of part ≡ Ok forms
-    → MatchResult r (λ h. state_of h ≡ first_state forms) (λ refused. refused ≡ opening.NoMemory) → Opens hub_script (lenses_of part) r
+    → MatchResult r (λ h. hub_state_of h ≡ first_state forms) (λ refused. refused ≡ opening.NoMemory) → Opens hub_script (lenses_of part) r
 opens part forms (Ok h) is first = record { program = forms; is = is; first = first }
 opens part forms (Err (opening.Refused line)) is none = absurd cc
 opens part forms (Err opening.NoMemory) is none = tt
 
 pub refused_with : (outcome : Result (List FormTree) HubRefusal) (refused : HubRefused) (line : List ℕ) → refused ≢ NoMemory
-    → ((refusal : HubRefusal) → IsRefusalOf refused refusal → line ≡ refusal_line refusal) → IsRefused outcome refused → IsRefusedWith hub_script outcome line
+    → ((refusal : HubRefusal) → IsRefusalOf refused refusal → line ≡ hub_refusal_line refusal) → IsRefusedHub outcome refused → IsRefusedWith hub_script outcome line
 refused_with outcome TooManyViews line not is h = record { refusal = h.0; is = h.1; is_line = is h.0 h.2 }
 refused_with outcome (InView v refused) line not is h = record { refusal = h.0; is = h.1; is_line = is h.0 h.2 }
 refused_with outcome (ViewsDiffer v) line not is h = record { refusal = h.0; is = h.1; is_line = is h.0 h.2 }
 refused_with outcome NoMemory line not is h = absurd (not refl)
 
 -- the refusal of the pieces is that of the program part
-pub part_refused : (part : List ℕ) (kept : Pieces) (refused : HubRefused) (h : HasPieces kept part) → IsRefused (forms_of (h.ended ++ h.begun ∷ [])) refused → IsRefused (lenses_of part) refused
-part_refused part kept refused h none = subst (λ (ps : List (List ℕ)). IsRefused (forms_of ps) refused) (sym h.are) none
+pub part_refused : (part : List ℕ) (kept : Pieces) (refused : HubRefused) (h : HasPieces kept part) → IsRefusedHub (forms_of (h.ended ++ h.begun ∷ [])) refused → IsRefusedHub (lenses_of part) refused
+part_refused part kept refused h none = subst (λ (ps : List (List ℕ)). IsRefusedHub (forms_of ps) refused) (sym h.are) none

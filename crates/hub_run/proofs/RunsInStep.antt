@@ -10,7 +10,7 @@ use Rattle.view_hub.proofs.HubSteps.{keeps}
 use Rattle.hub_run.specs.Answers.{HubAnswerTree, no_edit}
 use Rattle.hub_run.specs.Runs.{HubItem, answer_of, take_hub_item}
 
-after_is : (h : HubTree) (r : Result (HubTree × CarriedTree) hubs.Refusal) → (answer_of h r).0 ≡ hub_after h r
+after_is : (h : HubTree) (r : Result (HubTree × CarriedTree) hubs.ViewRefusal) → (answer_of h r).0 ≡ hub_after h r
 after_is h (Ok r) = refl
 after_is h (Err (hubs.no_view views)) = refl
 after_is h (Err (hubs.no_apply at cause)) = refl

@@ -6,7 +6,7 @@ use Rattle.accepted_programs.specs.declared.program.Accepted.{Accepted}
 use Rattle.doc_values.specs.Types.{TyTree}
 use Rattle.lens_forms.specs.Forms.{form_tree}
 use Rattle.program_terms.specs.Views.{program_tree}
-use Rattle.hub_run.specs.FoundLenses.{IsRefused}
+use Rattle.hub_run.specs.FoundLenses.{IsRefusedHub}
 use Rattle.hub_run.specs.Lenses.{form_of_view, view_with, with_left}
 use Rattle.hub_run.specs.PiecePrograms.{IsViewOf}
 use Rattle.hub_run.specs.declared.views.HubRefused.{HubRefused}
@@ -22,7 +22,7 @@ module _ (left : Option TyTree) (number : ℕ) (text : List ℕ) (a : Accepted) 
   of_view : form_of_view left number text ≡ with_left left number (form_tree a.lens)
   of_view = ap (view_with left number) is.has_lens
 
-  refused_too : (refused : HubRefused) → IsRefused (with_left left number (form_tree a.lens)) refused → IsRefused (form_of_view left number text) refused
+  refused_too : (refused : HubRefused) → IsRefusedHub (with_left left number (form_tree a.lens)) refused → IsRefusedHub (form_of_view left number text) refused
   refused_too TooManyViews h = (h.0, of_view ∙ h.1, h.2)
   refused_too (InView v refused) h = (h.0, of_view ∙ h.1, h.2)
   refused_too (ViewsDiffer v) h = (h.0, of_view ∙ h.1, h.2)
@@ -34,7 +34,7 @@ module _ (left : Option TyTree) (number : ℕ) (text : List ℕ) (a : Accepted) 
       (record { read = is.read; has_lens = of_view ∙ found })
 
 pub view_found : (left : Option TyTree) (number : ℕ) (text : List ℕ) (a : Accepted) (r : Result Accepted HubRefused) → IsAccepted text (program_tree a.program) (form_tree a.lens)
-    → MatchResult r (λ same. (same ≡ a) × (with_left left number (form_tree a.lens) ≡ Ok (form_tree a.lens))) (IsRefused (with_left left number (form_tree a.lens)))
-    → MatchResult r (λ same. IsViewOf left number text (program_tree same.program) (form_tree same.lens)) (IsRefused (form_of_view left number text))
+    → MatchResult r (λ same. (same ≡ a) × (with_left left number (form_tree a.lens) ≡ Ok (form_tree a.lens))) (IsRefusedHub (with_left left number (form_tree a.lens)))
+    → MatchResult r (λ same. IsViewOf left number text (program_tree same.program) (form_tree same.lens)) (IsRefusedHub (form_of_view left number text))
 view_found left number text a (Ok same) is h = same_found left number text a is same h.0 h.1
 view_found left number text a (Err refused) is h = refused_too left number text a is refused h

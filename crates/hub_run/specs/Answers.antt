@@ -16,9 +16,9 @@ pub data HubAnswerTree : Type 0 where
   no_apply : ℕ → Cause → HubAnswerTree
   no_edit : LineFault → HubAnswerTree
 
-abbrev pub is_refused : HubAnswerTree → Bool
-is_refused (carried words) = false
-is_refused _ = true
+abbrev pub is_refused_by_hub : HubAnswerTree → Bool
+is_refused_by_hub (carried words) = false
+is_refused_by_hub _ = true
 
 -- the array of the trees of words
 abbrev pub items_of_words : List WordTree → Items

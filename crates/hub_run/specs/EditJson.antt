@@ -14,18 +14,19 @@ use Rattle.view_hub.specs.Hubs.{Place, at_hub, at_view}
 -- ---- the tree of an edit
 
 -- the tree of the place of an edit: `hub`, or the number of a view
-abbrev pub tree_of_place : Place → Data
-tree_of_place at_hub = string (codes "hub")
-tree_of_place (at_view k) = count_tree k
+abbrev pub tree_of_hub_place : Place → Data
+tree_of_hub_place at_hub = string (codes "hub")
+tree_of_hub_place (at_view k) = count_tree k
 
 -- an object with exactly the members `at`, the place, and `edit`, a word
 abbrev pub tree_of_edit : Place × WordTree → Data
-tree_of_edit e = object (member (codes "at") (tree_of_place e.0) (member (codes "edit") (tree_of_word e.1) no_members))
+tree_of_edit e =
+    object (member (codes "at") (tree_of_hub_place e.0) (member (codes "edit") (tree_of_word e.1) no_members))
 
 -- the number of a view is one that the program can hold
-abbrev pub place_fits : Place → Bool
-place_fits at_hub = true
-place_fits (at_view k) = nat_lt k (2 ^ 64)
+abbrev pub hub_place_fits : Place → Bool
+hub_place_fits at_hub = true
+hub_place_fits (at_view k) = nat_lt k (2 ^ 64)
 
 -- ---- the edit that a tree is
 
@@ -40,24 +41,24 @@ place_of_tree d = if is_hub d then Some at_hub else option_map at_view (count_of
 
 -- The place and the tree of the edit, where the tree is an object with exactly the members `at` and `edit`, which are
 -- in byte order, and `at` is a place.
-abbrev pub parts_of : Data → Option (Place × Data)
-parts_of (object (member k at (member l edit no_members))) =
+abbrev pub hub_edit_parts : Data → Option (Place × Data)
+hub_edit_parts (object (member k at (member l edit no_members))) =
     if bytes_eq k (codes "at") && bytes_eq l (codes "edit") then option_map (λ place. (place, edit))
     (place_of_tree at) else None
-parts_of _ = None
+hub_edit_parts _ = None
 
 -- with the place, the word that the edit is
 abbrev pub edit_with : Place → Option WordTree → Result (Place × WordTree) LineFault
 edit_with place (Some w) = Ok (place, w)
 edit_with place None = Err not_an_edit
 
-abbrev pub edit_of_parts : Option (Place × Data) → Result (Place × WordTree) LineFault
-edit_of_parts (Some p) = edit_with p.0 (word_of_tree p.1)
-edit_of_parts None = Err not_an_entry
+abbrev pub edit_of_hub_parts : Option (Place × Data) → Result (Place × WordTree) LineFault
+edit_of_hub_parts (Some p) = edit_with p.0 (word_of_tree p.1)
+edit_of_hub_parts None = Err not_an_entry
 
 -- the edit of a tree
 abbrev pub edit_of_tree : Data → Result (Place × WordTree) LineFault
-edit_of_tree d = edit_of_parts (parts_of d)
+edit_of_tree d = edit_of_hub_parts (hub_edit_parts d)
 
 -- ---- the edit that a line is
 

@@ -4,7 +4,7 @@ use Rattle.doc_values.specs.Types.{TyTree}
 use Rattle.lens_forms.specs.Forms.{FormTree, left_type}
 use Rattle.lens_forms.specs.Typing.{is_typed}
 use Rattle.accepted_programs.specs.Program.{Refusal}
-use Rattle.accepted_programs.specs.Refused.{IsRefusal, IsKnown}
+use Rattle.accepted_programs.specs.Refused.{IsProgramRefusal, IsKnown}
 use Rattle.hub_run.specs.Lenses.{HubRefusal, too_many_views, in_view, views_differ}
 use Rattle.hub_run.specs.declared.views.HubRefused.{HubRefused}
 use Rattle.hub_run.specs.declared.views.HubRefused.TheVariants.{TooManyViews, InView, ViewsDiffer, NoMemory}
@@ -12,14 +12,15 @@ use Rattle.hub_run.specs.declared.views.HubRefused.TheVariants.{TooManyViews, In
 -- the code's refusal is this one; running out of memory is none
 abbrev pub IsRefusalOf : HubRefused → HubRefusal → Type 0
 IsRefusalOf TooManyViews refusal = refusal ≡ too_many_views
-IsRefusalOf (InView v refused) refusal = (why : Refusal) × (refusal ≡ in_view v why) × IsRefusal (Err why) refused
+IsRefusalOf (InView v refused) refusal =
+    (why : Refusal) × (refusal ≡ in_view v why) × IsProgramRefusal (Err why) refused
 IsRefusalOf (ViewsDiffer v) refusal = refusal ≡ views_differ v
 IsRefusalOf NoMemory refusal = ⊥
 
 -- the code's refusal is that of the definition; running out of memory says nothing
-abbrev pub IsRefused : {X : Type 0} → Result X HubRefusal → HubRefused → Type 0
-IsRefused outcome NoMemory = Unit {0}
-IsRefused outcome refused = (refusal : HubRefusal) × (outcome ≡ Err refusal) × IsRefusalOf refused refusal
+abbrev pub IsRefusedHub : {X : Type 0} → Result X HubRefusal → HubRefused → Type 0
+IsRefusedHub outcome NoMemory = Unit {0}
+IsRefusedHub outcome refused = (refusal : HubRefusal) × (outcome ≡ Err refusal) × IsRefusalOf refused refusal
 
 -- the refusal of a view has a line: running out of memory has none
 abbrev pub HasRefusalLine : HubRefused → Type 0

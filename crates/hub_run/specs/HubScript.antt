@@ -4,20 +4,20 @@ use Rattle.lens_flat.specs.declared.flat.ReadyForm.{ReadyForm}
 use Rattle.lens_forms.specs.Forms.{FormTree}
 use Rattle.script_run.specs.declared.script_state.ScriptState as OfScript
 use Rattle.view_hub.specs.Views.{HubOf}
-use Rattle.hub_run.specs.Lenses.{HubRefusal, lenses_of, refusal_line}
-use Rattle.hub_run.specs.RunStates.{state_of}
-use Rattle.hub_run.specs.Runs.{HubState, IsInStep, answer, first_state, state_text}
+use Rattle.hub_run.specs.Lenses.{HubRefusal, lenses_of, hub_refusal_line}
+use Rattle.hub_run.specs.RunStates.{hub_state_of}
+use Rattle.hub_run.specs.Runs.{HubState, IsHubInStep, hub_answer, first_state, hub_state_text}
 
 abbrev pub hub_script : OfScript.Ghosts (HubOf ReadyForm)
 hub_script = record {
   Accepted = List FormTree;
   Refusal = HubRefusal;
   State = HubState;
-  state = state_of;
+  state = hub_state_of;
   accepted = lenses_of;
-  refusal_line = refusal_line;
+  refusal_line = hub_refusal_line;
   start = first_state;
-  answer = answer;
-  state_text = state_text;
-  in_step = IsInStep;
+  answer = hub_answer;
+  state_text = hub_state_text;
+  in_step = IsHubInStep;
 }

@@ -1,5 +1,5 @@
 -- The lenses of the views of a program part, or why it is refused, and the line of a refusal.
--- Read it from the end: `refusal_line`, then `lenses_of`.
+-- Read it from the end: `hub_refusal_line`, then `lenses_of`.
 use Rattle.std.specs.Prelude.{ℕ, List, [], ◌∷◌, ◌++◌, length, Option, None, Some, Result, Ok, Err, if◌then◌else◌}
 use Rattle.std.specs.Prelude.{nat_lt, codes, decimal}
 use Rattle.doc_values.specs.Types.{TyTree, is_same_ty}
@@ -62,7 +62,7 @@ abbrev pub view_reason : ℕ → List ℕ → List ℕ
 view_reason v why = codes "view " ++ decimal v ++ codes " " ++ why
 
 -- `program refused: too-many-views`, `program refused: view V REASON` and `program refused: views-differ V`
-abbrev pub refusal_line : HubRefusal → List ℕ
-refusal_line too_many_views = program_refused_line (codes "too-many-views")
-refusal_line (in_view v refusal) = program_refused_line (view_reason v (reason refusal))
-refusal_line (views_differ v) = program_refused_line (codes "views-differ " ++ decimal v)
+abbrev pub hub_refusal_line : HubRefusal → List ℕ
+hub_refusal_line too_many_views = program_refused_line (codes "too-many-views")
+hub_refusal_line (in_view v refusal) = program_refused_line (view_reason v (reason refusal))
+hub_refusal_line (views_differ v) = program_refused_line (codes "views-differ " ++ decimal v)

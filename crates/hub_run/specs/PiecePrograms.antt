@@ -1,5 +1,5 @@
 -- The programs of the pieces of a program part, with their lenses. Read it from the end: `AreViews`, `IsViewOf`, then
--- `programs_of`.
+-- `programs_of_pieces`.
 use Rattle.std.specs.Prelude.{◌≡◌, ℕ, List, [], ◌∷◌, Option, Some, None, option_map, option_and_then, Result, Ok, Err}
 use Rattle.doc_values.specs.Types.{TyTree}
 use Rattle.lens_forms.specs.Forms.{FormTree}
@@ -13,14 +13,14 @@ if_program (Ok program) = Some program
 if_program (Err cause) = None
 
 -- the program of a text of at most 65,536 bytes
-abbrev pub program_of : List ℕ → Option ProgramTree
-program_of text = if_program (bounded text)
+abbrev pub program_of_piece : List ℕ → Option ProgramTree
+program_of_piece text = if_program (bounded text)
 
 -- the programs of these pieces, if each is one
-abbrev pub programs_of : List (List ℕ) → Option (List ProgramTree)
-programs_of [] = Some []
-programs_of (piece ∷ pieces) =
-    option_and_then (λ p. option_map (λ ps. p ∷ ps) (programs_of pieces)) (program_of piece)
+abbrev pub programs_of_pieces : List (List ℕ) → Option (List ProgramTree)
+programs_of_pieces [] = Some []
+programs_of_pieces (piece ∷ pieces) =
+    option_and_then (λ p. option_map (λ ps. p ∷ ps) (programs_of_pieces pieces)) (program_of_piece piece)
 
 -- This piece is read as the program, and its lens has the form, as the view with this number, whose left type is to be
 -- this one, if there is one.
@@ -31,5 +31,5 @@ pub record IsViewOf (left : Option TyTree) (number : ℕ) (piece : List ℕ) (pr
 
 -- These pieces are read as the programs, and their lenses have the forms.
 pub record AreViews (pieces : List (List ℕ)) (programs : List ProgramTree) (forms : List FormTree) : Type 0 where
-  pub read : programs_of pieces ≡ Some programs
+  pub read : programs_of_pieces pieces ≡ Some programs
   pub has_lenses : forms_of pieces ≡ Ok forms

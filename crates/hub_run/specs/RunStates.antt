@@ -14,8 +14,8 @@ abbrev pub forms_of_lenses : List ReadyForm → List FormTree
 forms_of_lenses ls = map (λ (l : ReadyForm). form_tree l.typed) ls
 
 -- the forms of a hub's lenses, and the hub
-abbrev pub state_of : HubOf ReadyForm → HubState
-state_of h = record { forms = forms_of_lenses h.lenses; hub = hub_tree h.parts }
+abbrev pub hub_state_of : HubOf ReadyForm → HubState
+hub_state_of h = record { forms = forms_of_lenses h.lenses; hub = hub_tree h.parts }
 
 -- a compiled lens: that of its form
 abbrev pub ready_lens : OfLens.Ghosts ReadyForm

@@ -1,6 +1,6 @@
 -- The run of a hub over the lines of a journal, and the lines of its last state. The run over lines is `run` of
 -- script_run, from the state and the answer that are defined here.
--- Read it from the end: `IsInStep`, `first_state`, `answer`, then `state_text`.
+-- Read it from the end: `IsHubInStep`, `first_state`, `hub_answer`, then `hub_state_text`.
 use Rattle.std.specs.Prelude.{◌≡◌, ℕ, ◌+◌, List, [], ◌∷◌, ◌++◌, slice_get, Option, Some, option_map, Result, Ok, Err}
 use Rattle.std.specs.Prelude.{codes, decimal}
 use Rattle.doc_values.specs.Documents.{DocTree, unit}
@@ -17,7 +17,8 @@ use Rattle.script_run.specs.declared.line_answers.Answer.{Answer}
 use Rattle.view_hub.specs.Hubs as hubs
 use Rattle.view_hub.specs.Hubs.{ViewTree, HubTree, Place, CarriedTree, step, first_hub}
 use Rattle.view_hub.specs.Laws.{IsHub}
-use Rattle.hub_run.specs.Answers.{HubAnswerTree, carried, no_view, no_apply, no_edit, is_refused, hub_answer_line}
+use Rattle.hub_run.specs.Answers.{HubAnswerTree, carried, no_view, no_apply, no_edit, is_refused_by_hub}
+use Rattle.hub_run.specs.Answers.{hub_answer_line}
 use Rattle.hub_run.specs.EditJson.{edit_of_line}
 use Rattle.hub_run.specs.FormLenses.{form_lens}
 
@@ -56,7 +57,7 @@ abbrev pub HubItem : Type 0
 HubItem = Result (Place × WordTree) LineFault
 
 -- the hub after a step, and the answer; a refused step leaves the hub as it was
-abbrev pub answer_of : HubTree → Result (HubTree × CarriedTree) hubs.Refusal → HubTree × HubAnswerTree
+abbrev pub answer_of : HubTree → Result (HubTree × CarriedTree) hubs.ViewRefusal → HubTree × HubAnswerTree
 answer_of h (Ok r) = (r.0, carried r.1)
 answer_of h (Err (hubs.no_view views)) = (h, no_view)
 answer_of h (Err (hubs.no_apply at cause)) = (h, no_apply at cause)
@@ -75,17 +76,17 @@ pub record HubState : Type 0 where
   pub hub : HubTree
 
 -- the state lines of a state
-abbrev pub state_text : HubState → List ℕ
-state_text t = hub_state_lines t.forms t.hub
+abbrev pub hub_state_text : HubState → List ℕ
+hub_state_text t = hub_state_lines t.forms t.hub
 
 -- the state after the item with this number, and its answer line
-abbrev pub answered : List FormTree → ℕ → HubTree × HubAnswerTree → HubState × Answer
-answered forms n s =
-    (record { forms = forms; hub = s.0 }, record { line = hub_answer_line n s.1; refused = is_refused s.1 })
+abbrev pub hub_answered : List FormTree → ℕ → HubTree × HubAnswerTree → HubState × Answer
+hub_answered forms n s =
+    (record { forms = forms; hub = s.0 }, record { line = hub_answer_line n s.1; refused = is_refused_by_hub s.1 })
 
 -- what the item with this number makes of a state: an edit steps the hub, and any other line leaves it
-abbrev pub answer : HubState → ℕ → Line → Option (HubState × Answer)
-answer t n line = option_map (answered t.forms n) (take_hub_item form_lens t.forms t.hub (edit_of_line line))
+abbrev pub hub_answer : HubState → ℕ → Line → Option (HubState × Answer)
+hub_answer t n line = option_map (hub_answered t.forms n) (take_hub_item form_lens t.forms t.hub (edit_of_line line))
 
 -- The hub at its start: the initial documents and the missing complements. A program part has a view at least.
 abbrev pub hub_of : List FormTree → HubTree
@@ -98,5 +99,5 @@ first_state forms = record { forms = forms; hub = hub_of forms }
 
 -- The lenses are those of these forms, and each view's complement and document are in its lens's consistency relation
 -- with the hub's document.
-abbrev pub IsInStep : List FormTree → HubState → Type 0
-IsInStep forms t = (t.forms ≡ forms) × IsHub form_lens forms t.hub
+abbrev pub IsHubInStep : List FormTree → HubState → Type 0
+IsHubInStep forms t = (t.forms ≡ forms) × IsHub form_lens forms t.hub

@@ -4,9 +4,9 @@ ghost use Rattle.std.specs.Prelude.{◌≡◌, ◌++◌, ◌∷◌, false, [], c
 ghost use Rattle.serde_json.specs.Written.{comma_if, compact_text};
 ghost use Rattle.edit_module.specs.Views.{word_tree, word_trees};
 ghost use Rattle.edit_json.specs.WordJson.{tree_of_word};
-ghost use Rattle.view_hub.specs.Views.{carried_tree};
+ghost use Rattle.view_hub.specs.Views.{hub_carried_tree};
 ghost use Rattle.hub_run.specs.Answers.{HubAnswerTree, tree_of_words, hub_ok_line, no_view_line, hub_answer_line};
-ghost use Rattle.hub_run.specs.Answers.{is_refused};
+ghost use Rattle.hub_run.specs.Answers.{is_refused_by_hub};
 ghost use Rattle.hub_run.specs.AnswerLines.{HasAnswerLine};
 ghost use Rattle.hub_run.specs.Views.{answer_tree};
 
@@ -38,7 +38,7 @@ pub enum HubAnswer {
 impl HubAnswer {
     /// Whether the item was refused.
     pub fn is_refused(&self) -> bool
-        ensures refused { IfSome (answer_tree self.now) (λ answer. result ≡ is_refused answer) }
+        ensures refused { IfSome (answer_tree self.now) (λ answer. result ≡ is_refused_by_hub answer) }
     {
         match self {
             HubAnswer::Carried(_) => false,
@@ -66,7 +66,7 @@ pub fn hub_answer_line(alloc: Global, number: u64, answer: &HubAnswer) -> Result
 /// the hub, and LIST the array of the views' words, both as compact JSON. The only error is running
 /// out of memory.
 pub fn hub_ok_line(alloc: Global, number: u64, carried: &HubCarried) -> Result<Bytes, AllocError>
-    ensures line { IfOk result (λ line. line ≡ hub_ok_line number (carried_tree carried.now)) }
+    ensures line { IfOk result (λ line. line ≡ hub_ok_line number (hub_carried_tree carried.now)) }
 {
     let mut digits = Buffer::new();
     let mut line = Vec::with_capacity(alloc, USUAL)?;

@@ -2,7 +2,7 @@
 
 ghost use Rattle.std.specs.Prelude.{◌≡◌, IfOk, Ok};
 ghost use Rattle.edit_module.specs.Views.{word_tree};
-ghost use Rattle.view_hub.specs.Views.{hub_tree, place_of};
+ghost use Rattle.view_hub.specs.Views.{hub_tree, place_of_side};
 ghost use Rattle.hub_run.specs.AnswerLines.{HasAnswerLine};
 ghost use Rattle.hub_run.specs.EditJson.{edit_of_line};
 ghost use Rattle.hub_run.specs.Runs.{take_hub_item};
@@ -45,7 +45,7 @@ fn take_edit<L: EditLens>(
     word: &Word,
 ) -> Result<HubAnswer, AllocError>
     ensures answer { IfOk result (λ answer. take_hub_item L.EditLens hub.old.lenses
-        (hub_tree hub.old.parts) (Ok (place_of side, word_tree word.now))
+        (hub_tree hub.old.parts) (Ok (place_of_side side, word_tree word.now))
         ≡ step_with (hub_tree hub.new.parts) answer) }
     ensures has_line { IfOk result (λ answer. HasAnswerLine answer) }
     ensures lens { hub.new.lenses ≡ hub.old.lenses }

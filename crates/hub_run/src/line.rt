@@ -9,8 +9,9 @@ ghost use Rattle.edit_journal.specs.EntryJson.{tree_of_line};
 ghost use Rattle.edit_journal.specs.Reading.{Gives};
 ghost use Rattle.edit_journal.specs.declared.fault.EntryFault;
 ghost use Rattle.view_hub.specs.Hubs.{Place};
-ghost use Rattle.view_hub.specs.Views.{edit_tree, place_of};
-ghost use Rattle.hub_run.specs.EditJson.{tree_of_edit, place_fits, is_hub, place_of_tree, parts_of, edit_of_tree};
+ghost use Rattle.view_hub.specs.Views.{edit_tree, place_of_side};
+ghost use Rattle.hub_run.specs.EditJson.{tree_of_edit, hub_place_fits, is_hub, place_of_tree, hub_edit_parts};
+ghost use Rattle.hub_run.specs.EditJson.{edit_of_tree};
 ghost use Rattle.hub_run.specs.EditJson.{edit_of_text, edit_of_line};
 
 use edit_journal::{EntryFault, Line, read_edit, read_tree};
@@ -43,7 +44,7 @@ pub fn read_hub_edit(alloc: Global, line: &Line) -> Result<(HubSide, Word), Entr
 
     // If it is refused and memory has not run out, no edit has the tree of this line.
     ensures refused { IfErr result (λ fault. fault ≢ EntryFault.NoMemory → (edit : Place × WordTree)
-        → place_fits edit.0 ≡ true → counts_fit edit.1 ≡ true → numbers_fit edit.1 ≡ true
+        → hub_place_fits edit.0 ≡ true → counts_fit edit.1 ≡ true → numbers_fit edit.1 ≡ true
         → tree_of_line line.now ≡ Some (tree_of_edit edit) → ⊥) }
 {
     read_line(alloc, line)
@@ -82,7 +83,7 @@ pub fn read_edit_tree(alloc: Global, tree: &Value) -> Result<(HubSide, Word), En
 ///
 /// None if and only if the tree is not such an object, or `at` is neither `hub` nor a u64.
 pub fn side_and_edit(tree: &Value) -> Option<(HubSide, &Value)>
-    ensures { option_map (λ p. (place_of p.0, view p.1.now)) result ≡ parts_of (view tree.now) }
+    ensures { option_map (λ p. (place_of_side p.0, view p.1.now)) result ≡ hub_edit_parts (view tree.now) }
 {
     let ((first_name, at), (last_name, edit)) = two_members(tree)?;
     if first_name != "at" || last_name != "edit" {
@@ -93,7 +94,7 @@ pub fn side_and_edit(tree: &Value) -> Option<(HubSide, &Value)>
 
 // The hub, or the view with the number that a tree is.
 fn read_side(tree: &Value) -> Option<HubSide>
-    ensures { option_map place_of result ≡ place_of_tree (view tree.now) }
+    ensures { option_map place_of_side result ≡ place_of_tree (view tree.now) }
 {
     if is_hub(tree) {
         return Some(HubSide::Hub);

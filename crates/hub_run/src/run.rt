@@ -6,12 +6,12 @@ ghost use Rattle.script_run.specs.ScriptSteps.{Opens, IsNotOpened};
 ghost use Rattle.view_hub.specs.Laws.{HaveOneLeftType};
 ghost use Rattle.view_hub.specs.Views.{hub_tree};
 ghost use Rattle.hub_run.specs.FormLenses.{form_lens};
-ghost use Rattle.hub_run.specs.FoundLenses.{IsRefused, HasRefusalLine};
+ghost use Rattle.hub_run.specs.FoundLenses.{IsRefusedHub, HasRefusalLine};
 ghost use Rattle.hub_run.specs.HubHeads.{HasPieces};
 ghost use Rattle.hub_run.specs.HubScript.{hub_script};
 ghost use Rattle.hub_run.specs.Lenses.{lenses_of};
-ghost use Rattle.hub_run.specs.RunStates.{state_of, forms_of_lenses};
-ghost use Rattle.hub_run.specs.Runs.{answer, first_state, hub_of};
+ghost use Rattle.hub_run.specs.RunStates.{hub_state_of, forms_of_lenses};
+ghost use Rattle.hub_run.specs.Runs.{hub_answer, first_state, hub_of};
 
 use crate::answers::hub_answer_line;
 use crate::journal::take_hub_item;
@@ -49,9 +49,9 @@ impl Model for HubRun {
 impl ScriptState for HubRun {
     ghost use Rattle.std.specs.Prelude.{List};
     ghost use Rattle.lens_forms.specs.Forms.{FormTree};
-    ghost use Rattle.hub_run.specs.Lenses.{HubRefusal, lenses_of, refusal_line};
-    ghost use Rattle.hub_run.specs.RunStates.{state_of};
-    ghost use Rattle.hub_run.specs.Runs.{HubState, IsInStep, answer, first_state, state_text};
+    ghost use Rattle.hub_run.specs.Lenses.{HubRefusal, lenses_of, hub_refusal_line};
+    ghost use Rattle.hub_run.specs.RunStates.{hub_state_of};
+    ghost use Rattle.hub_run.specs.Runs.{HubState, IsHubInStep, hub_answer, first_state, hub_state_text};
 
     ghost Accepted = { List FormTree };
 
@@ -59,19 +59,19 @@ impl ScriptState for HubRun {
 
     ghost State = { HubState };
 
-    ghost state = { state_of };
+    ghost state = { hub_state_of };
 
     ghost accepted = { lenses_of };
 
-    ghost refusal_line = { refusal_line };
+    ghost refusal_line = { hub_refusal_line };
 
     ghost start = { first_state };
 
-    ghost answer = { answer };
+    ghost answer = { hub_answer };
 
-    ghost state_text = { state_text };
+    ghost state_text = { hub_state_text };
 
-    ghost in_step = { IsInStep };
+    ghost in_step = { IsHubInStep };
 
     fn answer(&mut self, alloc: Global, number: u64, line: &Line) -> Result<Answer, AllocError> {
         answer_item(alloc, &mut self.hub, number, line)
@@ -91,7 +91,7 @@ fn answer_item(
     line: &Line,
 ) -> Result<Answer, AllocError>
     ensures answer { IfOk result (λ a.
-        answer (state_of hub.old) number line.now ≡ Some (state_of hub.new, a)) }
+        hub_answer (hub_state_of hub.old) number line.now ≡ Some (hub_state_of hub.new, a)) }
     ensures lenses { hub.new.lenses ≡ hub.old.lenses }
 {
     let answer = take_hub_item(alloc, hub, line)?;
@@ -106,7 +106,7 @@ impl HubRun {
     /// The only error is running out of memory.
     pub fn start(alloc: Global, typed: &[Typed]) -> Result<HubRun, AllocError>
         requires one_left { HaveOneLeftType form_lens (map form_tree typed.now) }
-        ensures state { IfOk result (λ r. state_of r ≡ first_state (map form_tree typed.now)) }
+        ensures state { IfOk result (λ r. hub_state_of r ≡ first_state (map form_tree typed.now)) }
     {
         let hub = first_hub(alloc, typed)?;
         Ok(HubRun { hub })
@@ -130,7 +130,7 @@ impl HubRun {
 // A hub of these lenses at its start, unless memory ran out.
 fn started(alloc: Global, typed: &[Typed]) -> Result<HubRun, NotOpened>
     requires one_left { HaveOneLeftType form_lens (map form_tree typed.now) }
-    ensures { MatchResult result (λ r. state_of r ≡ first_state (map form_tree typed.now))
+    ensures { MatchResult result (λ r. hub_state_of r ≡ first_state (map form_tree typed.now))
         (λ refused. refused ≡ NotOpened.NoMemory) }
 {
     match HubRun::start(alloc, typed) {
@@ -142,7 +142,7 @@ fn started(alloc: Global, typed: &[Typed]) -> Result<HubRun, NotOpened>
 // The line of a refusal, unless memory ran out.
 fn not_opened(alloc: Global, refused: &HubRefused) -> NotOpened
     requires has_line { HasRefusalLine refused.now }
-    ensures { (part : List ℕ) → IsRefused (lenses_of part) refused.now
+    ensures { (part : List ℕ) → IsRefusedHub (lenses_of part) refused.now
         → IsNotOpened hub_script (lenses_of part) result }
 {
     match refusal_line(alloc, refused) {

@@ -1,6 +1,6 @@
 //! The call over the script of a hub.
 
-ghost use Rattle.command_ends.specs.Statuses.{IsAmong, script_statuses};
+ghost use Rattle.command_ends.specs.Statuses.{IsStatusAmong, script_statuses};
 ghost use Rattle.std.specs.Prelude.{◌≡◌, ◌≤◌, IfSome, length};
 ghost use Rattle.lens_io.specs.Calls.{SourceFailed, SinkFailed};
 ghost use Rattle.script_input.specs.declared.limits.TheConstants.{MOST_BYTES};
@@ -35,7 +35,7 @@ pub fn run_hub<S: Source, K: Sink>(alloc: Global, source: &mut S, sink: &mut K) 
     ensures completes { IfSome (S.left source.old) (λ bytes. length bytes ≤ MOST_BYTES
         → (SourceFailed S.Source source.old source.new → ⊥) → (SinkFailed K.Sink sink.old sink.new → ⊥)
         → IsComplete hub_script bytes result) }
-    ensures statuses { IsAmong script_statuses result }
+    ensures statuses { IsStatusAmong script_statuses result }
     ensures source_fault { result ≡ Status.SourceFault → SourceFailed S.Source source.old source.new }
     ensures sink_fault { result ≡ Status.SinkFault → SinkFailed K.Sink sink.old sink.new }
 {

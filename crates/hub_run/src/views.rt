@@ -5,7 +5,7 @@ ghost use Rattle.std.specs.Prelude.{Err, None, Some, codes, length, map};
 ghost use Rattle.doc_values.specs.Types.{TyTree, ty_tree};
 ghost use Rattle.lens_forms.specs.Forms.{FormTree, form_tree};
 ghost use Rattle.view_hub.specs.Laws.{HaveOneLeftType};
-ghost use Rattle.accepted_programs.specs.Refused.{IsKnown, IsRefusal};
+ghost use Rattle.accepted_programs.specs.Refused.{IsKnown, IsProgramRefusal};
 ghost use Rattle.accepted_programs.specs.Program.{Refusal};
 ghost use Rattle.answer_text.specs.Lines.{program_refused_line};
 ghost use Rattle.program_terms.specs.Views.{program_tree};
@@ -13,9 +13,9 @@ ghost use Rattle.script_input.specs.Parts.{HoldsPart};
 ghost use Rattle.hub_run.specs.HeldPieces.{HoldsPieces};
 ghost use Rattle.answer_text.specs.RefusalLines.{reason};
 ghost use Rattle.hub_run.specs.Lenses.{HubRefusal, view_with, with_left, form_of_view, first_left, forms_of};
-ghost use Rattle.hub_run.specs.Lenses.{view_reason, refusal_line, views_differ};
+ghost use Rattle.hub_run.specs.Lenses.{view_reason, hub_refusal_line, views_differ};
 ghost use Rattle.hub_run.specs.FormLenses.{form_lens};
-ghost use Rattle.hub_run.specs.FoundLenses.{IsRefusalOf, IsRefused, HasRefusalLine, HasLeft};
+ghost use Rattle.hub_run.specs.FoundLenses.{IsRefusalOf, IsRefusedHub, HasRefusalLine, HasLeft};
 ghost use Rattle.hub_run.specs.PiecePrograms.{AreViews, IsViewOf};
 
 use crate::pieces::Pieces;
@@ -82,7 +82,7 @@ impl Pieces {
         ensures lenses { (ended : List (List ℕ)) (begun : List ℕ) → HoldsPieces self.now ended begun
             → MatchResult result
             (λ lenses. forms_of (ended ++ begun ∷ []) ≡ Ok (map form_tree lenses.items))
-            (λ refused. IsRefused (forms_of (ended ++ begun ∷ [])) refused) }
+            (λ refused. IsRefusedHub (forms_of (ended ++ begun ∷ [])) refused) }
         ensures one_left { IfOk result (λ lenses.
             HaveOneLeftType form_lens (map form_tree lenses.items)) }
         ensures known { IfErr result HasRefusalLine }
@@ -106,7 +106,7 @@ impl Pieces {
         ensures views { (ended : List (List ℕ)) (begun : List ℕ) → HoldsPieces self.now ended begun
             → MatchResult result
             (λ v. AreViews (ended ++ begun ∷ []) (map program_tree v.programs.items) (map form_tree v.lenses.items))
-            (λ refused. IsRefused (forms_of (ended ++ begun ∷ [])) refused) }
+            (λ refused. IsRefusedHub (forms_of (ended ++ begun ∷ [])) refused) }
         ensures one_left { IfOk result (λ v.
             HaveOneLeftType form_lens (map form_tree v.lenses.items)) }
         ensures known { IfErr result HasRefusalLine }
@@ -133,7 +133,8 @@ fn view_behind(alloc: Global, before: &[Typed], piece: &ProgramText) -> Result<A
     ensures view { (text : List ℕ) → HoldsPart piece.now text → MatchResult result
         (λ a. IsViewOf (first_left (map form_tree before.now)) (length before.now) text
         (program_tree a.program) (form_tree a.lens))
-        (λ refused. IsRefused (form_of_view (first_left (map form_tree before.now)) (length before.now) text) refused) }
+        (λ refused.
+        IsRefusedHub (form_of_view (first_left (map form_tree before.now)) (length before.now) text) refused) }
     ensures same_left { IfOk result (λ a. HasLeft (first_left (map form_tree before.now)) (form_tree a.lens)) }
     ensures known { IfErr result HasRefusalLine }
 {
@@ -147,7 +148,7 @@ fn view_behind(alloc: Global, before: &[Typed], piece: &ProgramText) -> Result<A
 fn first_view(alloc: Global, piece: &ProgramText) -> Result<Accepted, HubRefused>
     ensures view { (text : List ℕ) → HoldsPart piece.now text → MatchResult result
         (λ a. IsViewOf None 0 text (program_tree a.program) (form_tree a.lens))
-        (λ refused. IsRefused (form_of_view None 0 text) refused) }
+        (λ refused. IsRefusedHub (form_of_view None 0 text) refused) }
     ensures known { IfErr result HasRefusalLine }
 {
     match accepted_part(alloc, piece) {
@@ -172,7 +173,7 @@ pub fn view_with_left(
 ) -> Result<Accepted, HubRefused>
     ensures view { (text : List ℕ) → HoldsPart piece.now text → MatchResult result
         (λ a. IsViewOf (Some (ty_tree left.now)) number text (program_tree a.program) (form_tree a.lens))
-        (λ refused. IsRefused (form_of_view (Some (ty_tree left.now)) number text) refused) }
+        (λ refused. IsRefusedHub (form_of_view (Some (ty_tree left.now)) number text) refused) }
     ensures same_left { IfOk result (λ a. HasLeft (Some (ty_tree left.now)) (form_tree a.lens)) }
     ensures known { IfErr result HasRefusalLine }
 {
@@ -185,8 +186,8 @@ pub fn view_with_left(
 // Why the view with this number is refused, whose program is refused for this cause.
 fn refused_view(number: u64, refused: Refused) -> HubRefused
     requires has_line { IsKnown refused }
-    ensures refused { (ty : Option TyTree) (outcome : Result FormTree Refusal) → IsRefusal outcome refused
-        → IsRefused (view_with ty number outcome) result }
+    ensures refused { (ty : Option TyTree) (outcome : Result FormTree Refusal) → IsProgramRefusal outcome refused
+        → IsRefusedHub (view_with ty number outcome) result }
     ensures known { HasRefusalLine result }
 {
     match refused {
@@ -201,7 +202,7 @@ fn with_left(left: &Ty, number: u64, view: Accepted) -> Result<Accepted, HubRefu
     ensures same { MatchResult result
         (λ same. (same ≡ view)
         × (with_left (Some (ty_tree left.now)) number (form_tree view.lens) ≡ Ok (form_tree view.lens)))
-        (λ refused. IsRefused (with_left (Some (ty_tree left.now)) number (form_tree view.lens)) refused) }
+        (λ refused. IsRefusedHub (with_left (Some (ty_tree left.now)) number (form_tree view.lens)) refused) }
     ensures same_left { IfOk result (λ same. HasLeft (Some (ty_tree left.now)) (form_tree same.lens)) }
     ensures known { IfErr result HasRefusalLine }
 {
@@ -220,7 +221,7 @@ pub fn refusal_line(alloc: Global, refused: &HubRefused) -> Result<Bytes, AllocE
     requires has_line { HasRefusalLine refused.now }
     ensures refusal { IfOk result (λ _. refused.now ≢ HubRefused.NoMemory) }
     ensures line { IfOk result (λ line. (refusal : HubRefusal) → IsRefusalOf refused.now refusal → line
-        ≡ refusal_line refusal) }
+        ≡ hub_refusal_line refusal) }
 {
     match refused {
         HubRefused::TooManyViews => program_refused_line(alloc, "too-many-views"),
@@ -231,7 +232,7 @@ pub fn refusal_line(alloc: Global, refused: &HubRefused) -> Result<Bytes, AllocE
 }
 
 fn views_differ_line(alloc: Global, number: u64) -> Result<Bytes, AllocError>
-    ensures { IfOk result (λ line. line ≡ refusal_line (views_differ number)) }
+    ensures { IfOk result (λ line. line ≡ hub_refusal_line (views_differ number)) }
 {
     let reason = format!(in alloc; "views-differ {number}")?;
     program_refused_line(alloc, reason.as_str())
@@ -240,7 +241,7 @@ fn views_differ_line(alloc: Global, number: u64) -> Result<Bytes, AllocError>
 // The line of a refusal of the view with this number.
 fn in_view_line(alloc: Global, number: u64, refused: &Refused) -> Result<Bytes, AllocError>
     requires has_line { IsKnown refused.now }
-    ensures { IfOk result (λ line. (why : Refusal) → IsRefusal (Err why) refused.now
+    ensures { IfOk result (λ line. (why : Refusal) → IsProgramRefusal (Err why) refused.now
         → line ≡ program_refused_line (view_reason number (reason why))) }
 {
     let line = refused_part_line(alloc, refused)?;

@@ -14,17 +14,17 @@ use Rattle.answer_text.specs.Lines.{tree_line, fault_line}
 use Rattle.lens_forms.specs.Forms.{FormTree, left_type, right_type}
 use Rattle.view_hub.specs.Groups.{GroupStepped, step_group}
 use Rattle.view_hub.specs.Hubs as hubs
-use Rattle.view_hub.specs.Hubs.{ViewTree, HubTree, CarriedTree, Place, Refusal, step}
+use Rattle.view_hub.specs.Hubs.{ViewTree, HubTree, CarriedTree, Place, ViewRefusal, step}
 use Rattle.hub_run.specs.Answers.{tree_of_words, hub_ok_line}
 use Rattle.hub_run.specs.FormLenses.{form_lens}
-use Rattle.hub_run.specs.Runs.{HubState, view_lines, hub_line, hub_state_lines, state_text}
+use Rattle.hub_run.specs.Runs.{HubState, view_lines, hub_line, hub_state_lines, hub_state_text}
 use Rattle.store_run.specs.OkLines.{IsLine, IsAnswer, IsOtherLine, AreOtherLines, begins_ok}
 use Rattle.store_run.specs.declared.session.StoredAnswer.{StoredAnswer}
 use Rattle.store_session.proofs.Decimals.{decimal_plain}
 use Rattle.store_session.proofs.AnswerLines.{answer_is_line}
 use Rattle.store_session.proofs.NoLineEnd.{text_plain}
 use Rattle.hub_records.specs.HubChanges.{one, group}
-use Rattle.hub_session.specs.HubAnswers.{HubItem, items_of_carried, group_ok_line, refused_part_line, refused_edit_line, refused_with, edit_answered, group_answered, answer_item}
+use Rattle.hub_session.specs.HubAnswers.{HubJournalItem, items_of_carried, group_ok_line, refused_hub_part_line, refused_edit_line, refused_with, edit_answered, group_answered, hub_answer_item}
 
 -- ---- lines of parts
 
@@ -58,14 +58,14 @@ group_is_line n cs =
 with_end : (part line : List ℕ) → line ≡ part ++ codes "\n" → has_no_end part ≡ true → IsLine line
 with_end part line is h = record { text = part; whole = is; plain = h }
 
-edit_refused_line : (n : ℕ) (why : Refusal) → IsLine (refused_edit_line n why)
+edit_refused_line : (n : ℕ) (why : ViewRefusal) → IsLine (refused_edit_line n why)
 edit_refused_line n (hubs.no_view views) =
     let p0 = numbered (codes "refused ") n refl in
     with_end (codes "refused " ++ decimal n ++ codes " no-view") (codes "refused " ++ decimal n ++ codes " no-view\n") (sym (append_assoc (codes "refused " ++ decimal n) (codes " no-view") (codes "\n")))
     (plain_both (codes "refused " ++ decimal n) (codes " no-view") p0 refl)
 edit_refused_line n (hubs.no_apply at cause) = answer_is_line n (no_apply at cause)
 
-part_refused_line : (n part : ℕ) (why : Refusal) → IsLine (refused_part_line n part why)
+part_refused_line : (n part : ℕ) (why : ViewRefusal) → IsLine (refused_hub_part_line n part why)
 part_refused_line n part (hubs.no_view views) =
     let p0 = numbered (codes "refused ") n refl in
     let p1 = plain_both (codes "refused " ++ decimal n) (codes " group ") p0 refl in
@@ -75,11 +75,11 @@ part_refused_line n part (hubs.no_view views) =
     (plain_both (codes "refused " ++ decimal n ++ codes " group " ++ decimal part) (codes " no-view") p2 refl)
 part_refused_line n part (hubs.no_apply at cause) = answer_is_line n (group_no_apply part at cause)
 
-edit_begins : (n : ℕ) (why : Refusal) → begins_ok (refused_edit_line n why) ≡ false
+edit_begins : (n : ℕ) (why : ViewRefusal) → begins_ok (refused_edit_line n why) ≡ false
 edit_begins n (hubs.no_view views) = refl
 edit_begins n (hubs.no_apply at cause) = refl
 
-part_begins : (n part : ℕ) (why : Refusal) → begins_ok (refused_part_line n part why) ≡ false
+part_begins : (n part : ℕ) (why : ViewRefusal) → begins_ok (refused_hub_part_line n part why) ≡ false
 part_begins n part (hubs.no_view views) = refl
 part_begins n part (hubs.no_apply at cause) = refl
 
@@ -89,7 +89,7 @@ module _ (s : HubState) (n : ℕ) where
   abbrev Made : HubState × StoredAnswer → Type 0
   Made p = IsAnswer p.1
 
-  of_edit : (e : Place × WordTree) (o : Option (Result (HubTree × CarriedTree) Refusal)) (t : HubState) (a : StoredAnswer) → option_map (edit_answered s n e) o ≡ Some (t, a) → IsAnswer a
+  of_edit : (e : Place × WordTree) (o : Option (Result (HubTree × CarriedTree) ViewRefusal)) (t : HubState) (a : StoredAnswer) → option_map (edit_answered s n e) o ≡ Some (t, a) → IsAnswer a
   of_edit e (Some (Ok r)) t a h =
       let pair : edit_answered s n e (Ok r) ≡ (t, a) = cc in
       subst Made pair (record { is_line = ok_is_line n r.1; ok = refl })
@@ -107,7 +107,7 @@ module _ (s : HubState) (n : ℕ) where
       subst Made pair (record { is_line = part_refused_line n why.0 why.1; ok = part_begins n why.0 why.1 })
   of_group es None t a h = cc
 
-  pub item_is_answer : (item : HubItem) (t : HubState) (a : StoredAnswer) → answer_item s n item ≡ Some (t, a) → IsAnswer a
+  pub item_is_answer : (item : HubJournalItem) (t : HubState) (a : StoredAnswer) → hub_answer_item s n item ≡ Some (t, a) → IsAnswer a
   item_is_answer (Ok (one e)) t a h = of_edit e (step form_lens s.forms s.hub e) t a h
   item_is_answer (Ok (group es)) t a h = of_group es (step_group form_lens s.forms s.hub es) t a h
   item_is_answer (Err fault) t a h =
@@ -141,5 +141,5 @@ forms_are_other [] h = ([], refl, tt)
 forms_are_other (l ∷ ls) h =
     in_front (hub_line l h.hub) (view_lines 0 (l ∷ ls) h.views) (tree_is_other (codes "hub") (tree_of_document (left_type l) h.hub) refl refl) (views_are_other 0 (l ∷ ls) h.views)
 
-pub states_are_other : (t : HubState) → AreOtherLines (state_text t)
+pub states_are_other : (t : HubState) → AreOtherLines (hub_state_text t)
 states_are_other t = forms_are_other t.forms t.hub

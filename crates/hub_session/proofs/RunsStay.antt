@@ -11,11 +11,11 @@ use Rattle.view_hub.specs.Laws.{IsHub}
 use Rattle.hub_run.specs.FormLenses.{form_lens}
 use Rattle.hub_run.specs.FoundLenses.{AllTyped}
 use Rattle.hub_run.specs.Runs.{HubState}
-use Rattle.hub_records.specs.HubChanges.{change_of_line}
+use Rattle.hub_records.specs.HubChanges.{hub_change_of_line}
 use Rattle.hub_records.proofs.StoodInStep.{stood_sound, change_stays}
 use Rattle.hub_session.specs.AnswerSteps.{Steps, kinds}
-use Rattle.hub_session.specs.HubAnswers.{answer}
-use Rattle.hub_session.specs.HubStates.{stands_for, stored_hub}
+use Rattle.hub_session.specs.HubAnswers.{stored_hub_answer}
+use Rattle.hub_session.specs.HubStates.{hub_stands_for, stored_hub}
 use Rattle.hub_session.specs.PayloadLaws.{stood}
 
 -- the lenses are typed, and the hub is in step with them
@@ -24,19 +24,19 @@ IsSoundState s = AllTyped s.forms × IsHub form_lens s.forms s.hub
 
 -- ---- what stands
 
-pub stored_sound : (ps : List (List ℕ)) (t : HubState) (v : Option (List ℕ)) → stands_for ps ≡ Ok (t, v) → IsSoundState t
+pub stored_sound : (ps : List (List ℕ)) (t : HubState) (v : Option (List ℕ)) → hub_stands_for ps ≡ Ok (t, v) → IsSoundState t
 stored_sound ps t v h = let found = stood ps t v h in subst IsSoundState found.state (stood_sound ps found.s found.is)
 
 -- ---- one line
 
 module _ (s : HubState) (n : ℕ) (line : Line) (t : HubState) (a : StoredAnswer) (k : IsSoundState s) where
-  steps_stay : Steps s t (change_of_line line) a → IsSoundState t
+  steps_stay : Steps s t (hub_change_of_line line) a → IsSoundState t
   steps_stay r =
       let hub : IsHub form_lens s.forms t.hub = change_stays s.forms k.0 s.hub r.change t.hub r.words k.1 r.step in
       (subst AllTyped (sym r.forms) k.0, subst (λ (fs : List FormTree). IsHub form_lens fs t.hub) (sym r.forms) hub)
 
-  pub answer_stays : answer s n line ≡ Some (t, a) → IsSoundState t
-  answer_stays is = elim (kinds s n (change_of_line line) t a is) [
+  pub answer_stays : stored_hub_answer s n line ≡ Some (t, a) → IsSoundState t
+  answer_stays is = elim (kinds s n (hub_change_of_line line) t a is) [
     | inl r ↦ subst IsSoundState (sym r.same) k
     | inr r ↦ steps_stay r
   ]
@@ -57,7 +57,7 @@ module _ {A : Type 0} (view : A → HubState) where
   first_of m None steps h = absurd cc
 
   line_stays : (s : HubState) (n : ℕ) (line : Line) (lines : List Line) (o : Option (HubState × StoredAnswer)) (steps : List (HubState × StoredAnswer)) → IsSoundState s
-      → answer s (n + 1) line ≡ o
+      → stored_hub_answer s (n + 1) line ≡ o
       → ((u : HubState) (rest : List (HubState × StoredAnswer)) → IsSoundState u → others u (n + 1) lines ≡ Some rest → AllStay rest)
       → option_and_then (λ (m : HubState × StoredAnswer). option_map (λ (rest : List (HubState × StoredAnswer)). m ∷ rest) (others m.0 (n + 1) lines)) o ≡ Some steps → AllStay steps
   line_stays s n line lines (Some m) steps k is behind h =
@@ -75,9 +75,9 @@ module _ {A : Type 0} (view : A → HubState) where
   lines_stay s n [] steps k h = let none : [] ≡ steps = cc in subst AllStay none tt
   lines_stay s n (line ∷ lines) steps k h =
       by_blank (is_blank line) (others s n lines)
-      (option_and_then (λ (m : HubState × StoredAnswer). option_map (λ (rest : List (HubState × StoredAnswer)). m ∷ rest) (others m.0 (n + 1) lines)) (answer s (n + 1) line)) steps
+      (option_and_then (λ (m : HubState × StoredAnswer). option_map (λ (rest : List (HubState × StoredAnswer)). m ∷ rest) (others m.0 (n + 1) lines)) (stored_hub_answer s (n + 1) line)) steps
       (λ e. lines_stay s n lines steps k e)
-      (λ e. line_stays s n line lines (answer s (n + 1) line) steps k refl (λ u rest t g. lines_stay u (n + 1) lines rest t g) e) h
+      (λ e. line_stays s n line lines (stored_hub_answer s (n + 1) line) steps k refl (λ u rest t g. lines_stay u (n + 1) lines rest t g) e) h
 
   pub run_stays : (s : HubState) (n : ℕ) (lines : List Line) (steps : List (HubState × StoredAnswer)) → IsSoundState s → others s n lines ≡ Some steps
       → All (λ step. IsHub form_lens step.0.forms step.0.hub) steps

@@ -6,14 +6,14 @@ use Rattle.edit_journal.specs.declared.line.Line.{Line}
 use Rattle.edit_module.specs.Words.{WordTree}
 use Rattle.answer_text.specs.Lines.{fault_line}
 use Rattle.view_hub.specs.Groups.{GroupStepped, then_others, step_group}
-use Rattle.view_hub.specs.Hubs.{HubTree, CarriedTree, Place, Refusal, step}
+use Rattle.view_hub.specs.Hubs.{HubTree, CarriedTree, Place, ViewRefusal, step}
 use Rattle.hub_run.specs.FormLenses.{form_lens}
 use Rattle.hub_run.specs.Runs.{HubState}
 use Rattle.store_run.specs.declared.session.StoredAnswer.{StoredAnswer}
-use Rattle.hub_records.specs.HubChanges.{HubChangeTree, one, group, change_of_line}
-use Rattle.hub_records.specs.HubStands.{step_of}
-use Rattle.hub_session.specs.HubAnswers.{HubItem, change_text, refused_with, edit_answered, group_answered}
-use Rattle.hub_session.specs.HubAnswers.{answer_item, answer}
+use Rattle.hub_records.specs.HubChanges.{HubChangeTree, one, group, hub_change_of_line}
+use Rattle.hub_records.specs.HubStands.{hub_step_of}
+use Rattle.hub_session.specs.HubAnswers.{HubJournalItem, hub_change_text, refused_with, edit_answered, group_answered}
+use Rattle.hub_session.specs.HubAnswers.{hub_answer_item, stored_hub_answer}
 
 -- the state stays, and there is no payload
 pub record Stays (s t : HubState) (a : StoredAnswer) : Type 0 where
@@ -21,22 +21,22 @@ pub record Stays (s t : HubState) (a : StoredAnswer) : Type 0 where
   pub none : a.payload ≡ None
 
 -- the change of the item makes the step, and the payload is its
-pub record Steps (s t : HubState) (item : HubItem) (a : StoredAnswer) : Type 0 where
+pub record Steps (s t : HubState) (item : HubJournalItem) (a : StoredAnswer) : Type 0 where
   pub change : HubChangeTree
   pub is : item ≡ Ok change
   pub forms : t.forms ≡ s.forms
   pub words : List CarriedTree
-  pub step : step_of s.forms s.hub change ≡ Some (Ok (t.hub, words))
-  pub payload : a.payload ≡ Some (change_text change)
+  pub step : hub_step_of s.forms s.hub change ≡ Some (Ok (t.hub, words))
+  pub payload : a.payload ≡ Some (hub_change_text change)
 
-abbrev pub Kinds : HubState → HubState → HubItem → StoredAnswer → Type 0
+abbrev pub Kinds : HubState → HubState → HubJournalItem → StoredAnswer → Type 0
 Kinds s t item a = Stays s t a ⊎ Steps s t item a
 
 module _ (s : HubState) (n : ℕ) where
-  abbrev KindOf : HubItem → HubState × StoredAnswer → Type 0
+  abbrev KindOf : HubJournalItem → HubState × StoredAnswer → Type 0
   KindOf item p = Kinds s p.0 item p.1
 
-  edit_kind : (e : Place × WordTree) (o : Option (Result (HubTree × CarriedTree) Refusal)) (t : HubState)
+  edit_kind : (e : Place × WordTree) (o : Option (Result (HubTree × CarriedTree) ViewRefusal)) (t : HubState)
       (a : StoredAnswer)
       → step form_lens s.forms s.hub e ≡ o
       → option_map (edit_answered s n e) o ≡ Some (t, a) → Kinds s t (Ok (one e)) a
@@ -68,7 +68,8 @@ module _ (s : HubState) (n : ℕ) where
       subst (KindOf (Ok (group es))) pair (inl (record { same = refl; none = refl }))
   group_kind es None t a is h = cc
 
-  pub kinds : (item : HubItem) (t : HubState) (a : StoredAnswer) → answer_item s n item ≡ Some (t, a) → Kinds s t item a
+  pub kinds : (item : HubJournalItem) (t : HubState) (a : StoredAnswer) → hub_answer_item s n item ≡ Some (t, a)
+      → Kinds s t item a
   kinds (Ok (one e)) t a h = edit_kind e (step form_lens s.forms s.hub e) t a refl h
   kinds (Ok (group es)) t a h = group_kind es (step_group form_lens s.forms s.hub es) t a refl h
   kinds (Err fault) t a h =
@@ -76,9 +77,10 @@ module _ (s : HubState) (n : ℕ) where
       subst (KindOf (Err fault)) pair (inl (record { same = refl; none = refl }))
 
 -- an item that is refused leaves the state
-pub refused_stays : (t t' : HubState) (n : ℕ) (line : Line) (a : StoredAnswer) → answer t n line ≡ Some (t', a)
+pub refused_stays : (t t' : HubState) (n : ℕ) (line : Line) (a : StoredAnswer)
+    → stored_hub_answer t n line ≡ Some (t', a)
     → a.payload ≡ None → t' ≡ t
-refused_stays t t' n line a e none = elim (kinds t n (change_of_line line) t' a e) [
+refused_stays t t' n line a e none = elim (kinds t n (hub_change_of_line line) t' a e) [
   | inl r ↦ r.same
   | inr r ↦ let p =
       r.payload in cc

@@ -1,4 +1,4 @@
--- The answer of a stored hub to a line of its journal. Read it from the end: `answer`, then the lines.
+-- The answer of a stored hub to a line of its journal. Read it from the end: `stored_hub_answer`, then the lines.
 use Rattle.std.specs.Prelude.{ℕ, List, [], ◌∷◌, ◌++◌, Option, Some, None, option_map, Result, Ok, Err, codes, decimal}
 use Rattle.serde_json.specs.Data.{Data, array, object, Items, no_items, item, no_members, member}
 use Rattle.serde_json.specs.Written.{compact_text}
@@ -8,12 +8,12 @@ use Rattle.edit_journal.specs.declared.line.Line.{Line}
 use Rattle.edit_module.specs.Words.{WordTree}
 use Rattle.answer_text.specs.Lines.{no_apply_line, group_refused_line, fault_line}
 use Rattle.view_hub.specs.Groups.{GroupStepped, step_group}
-use Rattle.view_hub.specs.Hubs.{HubTree, CarriedTree, Place, Refusal, no_view, no_apply, step}
+use Rattle.view_hub.specs.Hubs.{HubTree, CarriedTree, Place, ViewRefusal, no_view, no_apply, step}
 use Rattle.hub_run.specs.Answers.{tree_of_words, hub_ok_line, no_view_line}
 use Rattle.hub_run.specs.FormLenses.{form_lens}
 use Rattle.hub_run.specs.Runs.{HubState}
 use Rattle.store_run.specs.declared.session.StoredAnswer.{StoredAnswer}
-use Rattle.hub_records.specs.HubChanges.{HubChangeTree, one, group, tree_of_hub_change, change_of_line}
+use Rattle.hub_records.specs.HubChanges.{HubChangeTree, one, group, tree_of_hub_change, hub_change_of_line}
 
 -- ---- the lines of a group
 
@@ -36,20 +36,20 @@ abbrev pub group_no_view_line : ℕ → ℕ → List ℕ
 group_no_view_line n part = codes "refused " ++ decimal n ++ codes " group " ++ decimal part ++ codes " no-view\n"
 
 -- the line of a group that is refused at this edit
-abbrev pub refused_part_line : ℕ → ℕ → Refusal → List ℕ
-refused_part_line n part (no_view views) = group_no_view_line n part
-refused_part_line n part (no_apply at cause) = group_refused_line n part at cause
+abbrev pub refused_hub_part_line : ℕ → ℕ → ViewRefusal → List ℕ
+refused_hub_part_line n part (no_view views) = group_no_view_line n part
+refused_hub_part_line n part (no_apply at cause) = group_refused_line n part at cause
 
 -- the line of an edit that is refused
-abbrev pub refused_edit_line : ℕ → Refusal → List ℕ
+abbrev pub refused_edit_line : ℕ → ViewRefusal → List ℕ
 refused_edit_line n (no_view views) = no_view_line n
 refused_edit_line n (no_apply at cause) = no_apply_line n at cause
 
 -- ---- the answers
 
 -- the payload of a change
-abbrev pub change_text : HubChangeTree → List ℕ
-change_text change = compact_text (tree_of_hub_change change)
+abbrev pub hub_change_text : HubChangeTree → List ℕ
+hub_change_text change = compact_text (tree_of_hub_change change)
 
 -- an item was refused with this line: the state stays, and there is no payload
 abbrev pub refused_with : HubState → List ℕ → HubState × StoredAnswer
@@ -58,28 +58,28 @@ refused_with s line = (s, record { line = line; payload = None })
 -- a change was accepted with this line: its payload is stored
 abbrev pub accepted_with : HubState → HubTree → HubChangeTree → List ℕ → HubState × StoredAnswer
 accepted_with s h change line =
-    (record { forms = s.forms; hub = h }, record { line = line; payload = Some (change_text change) })
+    (record { forms = s.forms; hub = h }, record { line = line; payload = Some (hub_change_text change) })
 
 -- the answer to an edit, and to a group
-abbrev pub edit_answered : HubState → ℕ → Place × WordTree → Result (HubTree × CarriedTree) Refusal → HubState
+abbrev pub edit_answered : HubState → ℕ → Place × WordTree → Result (HubTree × CarriedTree) ViewRefusal → HubState
     × StoredAnswer
 edit_answered s n e (Ok r) = accepted_with s r.0 (one e) (hub_ok_line n r.1)
 edit_answered s n e (Err why) = refused_with s (refused_edit_line n why)
 
 abbrev pub group_answered : HubState → ℕ → List (Place × WordTree) → GroupStepped → HubState × StoredAnswer
 group_answered s n es (Ok r) = accepted_with s r.0 (group es) (group_ok_line n r.1)
-group_answered s n es (Err why) = refused_with s (refused_part_line n why.0 why.1)
+group_answered s n es (Err why) = refused_with s (refused_hub_part_line n why.0 why.1)
 
 -- an item is a change, or the fault of a line that is not one
-abbrev pub HubItem : Type 0
-HubItem = Result HubChangeTree LineFault
+abbrev pub HubJournalItem : Type 0
+HubJournalItem = Result HubChangeTree LineFault
 
 -- what the item with this number makes of a state: the next state, and the answer
-abbrev pub answer_item : HubState → ℕ → HubItem → Option (HubState × StoredAnswer)
-answer_item s n (Ok (one e)) = option_map (edit_answered s n e) (step form_lens s.forms s.hub e)
-answer_item s n (Ok (group es)) = option_map (group_answered s n es) (step_group form_lens s.forms s.hub es)
-answer_item s n (Err fault) = Some (refused_with s (fault_line n fault))
+abbrev pub hub_answer_item : HubState → ℕ → HubJournalItem → Option (HubState × StoredAnswer)
+hub_answer_item s n (Ok (one e)) = option_map (edit_answered s n e) (step form_lens s.forms s.hub e)
+hub_answer_item s n (Ok (group es)) = option_map (group_answered s n es) (step_group form_lens s.forms s.hub es)
+hub_answer_item s n (Err fault) = Some (refused_with s (fault_line n fault))
 
 -- the same of the line with this number
-abbrev pub answer : HubState → ℕ → Line → Option (HubState × StoredAnswer)
-answer s n line = answer_item s n (change_of_line line)
+abbrev pub stored_hub_answer : HubState → ℕ → Line → Option (HubState × StoredAnswer)
+stored_hub_answer s n line = hub_answer_item s n (hub_change_of_line line)

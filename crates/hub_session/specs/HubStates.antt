@@ -6,61 +6,61 @@ use Rattle.edit_journal.specs.declared.line.Line.{Line}
 use Rattle.view_hub.specs.Laws.{IsHub}
 use Rattle.hub_run.specs.FormLenses.{form_lens}
 use Rattle.hub_run.specs.FoundLenses.{AllTyped}
-use Rattle.hub_run.specs.Runs.{HubState, state_text}
+use Rattle.hub_run.specs.Runs.{HubState, hub_state_text}
 use Rattle.store_records.specs.declared.record_fault.RecordFault.{RecordFault}
 use Rattle.store_session.specs.StoredStates.{fault_of}
 use Rattle.store_run.specs.declared.session.StoredAnswer.{StoredAnswer}
 use Rattle.store_run.specs.declared.session.ReopenFault.{ReopenFault}
 use Rattle.store_run.specs.declared.session.StoredSession as OfSession
-use Rattle.hub_records.specs.HubChanges.{edits_of, all_numbers_fit, tree_of_hub_change, change_of_line}
+use Rattle.hub_records.specs.HubChanges.{edits_of, all_numbers_fit, tree_of_hub_change, hub_change_of_line}
 use Rattle.hub_records.specs.HubRecords.{tree_of_hub_snapshot}
 use Rattle.hub_records.specs.HubStands as hubs
 use Rattle.hub_records.specs.HubStands.{HubStanding}
 use Rattle.hub_records.specs.WholeInts.{hub_holds_i64s}
-use Rattle.hub_session.specs.HubAnswers.{HubItem, answer}
+use Rattle.hub_session.specs.HubAnswers.{HubJournalItem, stored_hub_answer}
 
 -- ---- what payloads stand for
 
 -- the state of what stands
-abbrev pub state_of : HubStanding → HubState
-state_of s = record { forms = s.forms; hub = s.hub }
+abbrev pub state_of_hub : HubStanding → HubState
+state_of_hub s = record { forms = s.forms; hub = s.hub }
 
 -- the store of a hub has no version record
-abbrev pub opened_as : Result HubStanding RecordFault → Result (HubState × Option (List ℕ)) ReopenFault
-opened_as (Ok s) = Ok (state_of s, None)
-opened_as (Err fault) = Err (fault_of fault)
+abbrev pub hub_opened_as : Result HubStanding RecordFault → Result (HubState × Option (List ℕ)) ReopenFault
+hub_opened_as (Ok s) = Ok (state_of_hub s, None)
+hub_opened_as (Err fault) = Err (fault_of fault)
 
-abbrev pub stands_for : List (List ℕ) → Result (HubState × Option (List ℕ)) ReopenFault
-stands_for payloads = opened_as (hubs.stands_for payloads)
+abbrev pub hub_stands_for : List (List ℕ) → Result (HubState × Option (List ℕ)) ReopenFault
+hub_stands_for payloads = hub_opened_as (hubs.stands_as_hub payloads)
 
-abbrev pub counted : Result HubStanding RecordFault → ℕ
-counted (Ok s) = s.count
-counted (Err fault) = 0
+abbrev pub hub_counted : Result HubStanding RecordFault → ℕ
+hub_counted (Ok s) = s.count
+hub_counted (Err fault) = 0
 
 -- how many payloads are of changes
-abbrev pub count_of : List (List ℕ) → ℕ
-count_of payloads = counted (hubs.stands_for payloads)
+abbrev pub hub_changes_counted : List (List ℕ) → ℕ
+hub_changes_counted payloads = hub_counted (hubs.stands_as_hub payloads)
 
 -- ---- steps and snapshots
 
 -- the payload is read back as the record of the change that the item is, and the program can hold its numbers
-abbrev pub ReadsAsChange : HubItem → List ℕ → Type 0
-ReadsAsChange (Ok change) payload = (tree_of_text payload ≡ Some (tree_of_hub_change change))
+abbrev pub ReadsAsHubChange : HubJournalItem → List ℕ → Type 0
+ReadsAsHubChange (Ok change) payload = (tree_of_text payload ≡ Some (tree_of_hub_change change))
     × (all_numbers_fit (edits_of change) ≡ true)
-ReadsAsChange (Err fault) payload = ⊥
+ReadsAsHubChange (Err fault) payload = ⊥
 
 -- what is known of the step by this line: if it has a payload, that is read back as the record of its change
-abbrev pub IsStep : HubState → ℕ → Line → HubState × StoredAnswer → Type 0
-IsStep s n line made = IfSome made.1.payload (ReadsAsChange (change_of_line line))
+abbrev pub IsHubStep : HubState → ℕ → Line → HubState × StoredAnswer → Type 0
+IsHubStep s n line made = IfSome made.1.payload (ReadsAsHubChange (hub_change_of_line line))
 
 -- the payload of the snapshot: the record of the state's hub as compact JSON
-abbrev pub snapshot_text : HubState → List ℕ
-snapshot_text s = compact_text (tree_of_hub_snapshot s.forms s.hub)
+abbrev pub hub_snapshot_text : HubState → List ℕ
+hub_snapshot_text s = compact_text (tree_of_hub_snapshot s.forms s.hub)
 
 -- What holds of a state of which a snapshot was made. Its payload is read back as the record of the state's hub. All
 -- views are in step with the hub, by lenses that are typed, and all ints are i64, as all ints of the program.
-pub record HasSnapshot (s : HubState) : Type 0 where
-  pub reads : tree_of_text (snapshot_text s) ≡ Some (tree_of_hub_snapshot s.forms s.hub)
+pub record HasHubSnapshot (s : HubState) : Type 0 where
+  pub reads : tree_of_text (hub_snapshot_text s) ≡ Some (tree_of_hub_snapshot s.forms s.hub)
   pub typed : AllTyped s.forms
   pub in_step : IsHub form_lens s.forms s.hub
   pub whole : hub_holds_i64s s.hub ≡ true
@@ -72,11 +72,11 @@ abbrev pub stored_hub : {A : Type 0} → (A → HubState) → OfSession.Ghosts A
 stored_hub view = record {
   State = HubState;
   state = view;
-  answer = answer;
-  is_step = IsStep;
-  state_text = state_text;
-  snapshot_text = snapshot_text;
-  has_snapshot = HasSnapshot;
-  count_of = count_of;
-  stands_for = stands_for;
+  answer = stored_hub_answer;
+  is_step = IsHubStep;
+  state_text = hub_state_text;
+  snapshot_text = hub_snapshot_text;
+  has_snapshot = HasHubSnapshot;
+  count_of = hub_changes_counted;
+  stands_for = hub_stands_for;
 }

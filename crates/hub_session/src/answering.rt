@@ -6,14 +6,14 @@ ghost use Rattle.serde_json.specs.Read.{max_depth};
 ghost use Rattle.edit_journal.specs.Reading.{cause_of, IsRefused};
 ghost use Rattle.edit_journal.specs.declared.fault.EntryFault;
 ghost use Rattle.edit_module.specs.Views.{word_tree};
-ghost use Rattle.view_hub.specs.Views.{edit_trees, place_of};
-ghost use Rattle.hub_run.specs.RunStates.{state_of};
+ghost use Rattle.view_hub.specs.Views.{edit_trees, place_of_side};
+ghost use Rattle.hub_run.specs.RunStates.{hub_state_of};
 ghost use Rattle.hub_run.specs.Runs.{HubState};
 ghost use Rattle.store_run.specs.OkLines.{IsAnswer};
 ghost use Rattle.hub_records.specs.HubChanges.{all_counts_fit, edits_of, group, one, tree_of_hub_change};
 ghost use Rattle.hub_records.specs.Views.{hub_change_tree};
-ghost use Rattle.hub_session.specs.HubAnswers.{HubItem, answer, answer_item, change_text};
-ghost use Rattle.hub_session.specs.HubStates.{IsStep, ReadsAsChange};
+ghost use Rattle.hub_session.specs.HubAnswers.{HubJournalItem, stored_hub_answer, hub_answer_item, hub_change_text};
+ghost use Rattle.hub_session.specs.HubStates.{IsHubStep, ReadsAsHubChange};
 
 use crate::lines::{group_no_view_line, group_ok_line};
 use answer_text::{fault_line, group_refused_line, no_apply_line};
@@ -35,9 +35,9 @@ pub(crate) fn answer_line(
     line: &Line,
 ) -> Result<StoredAnswer, AllocError>
     ensures answer { IfOk result (λ a.
-        answer (state_of hub.old) number line.now ≡ Some (state_of hub.new, a)) }
+        stored_hub_answer (hub_state_of hub.old) number line.now ≡ Some (hub_state_of hub.new, a)) }
     ensures step { IfOk result (λ a.
-        IsStep (state_of hub.old) number line.now (state_of hub.new, a)) }
+        IsHubStep (hub_state_of hub.old) number line.now (hub_state_of hub.new, a)) }
     ensures is_answer { IfOk result IsAnswer }
 {
     match read_hub_change(alloc, line) {
@@ -50,8 +50,8 @@ pub(crate) fn answer_line(
 // Answers a line that is not a change, for this fault.
 fn answer_fault(alloc: Global, number: u64, fault: EntryFault) -> Result<StoredAnswer, AllocError>
     requires of_the_line { fault ≢ EntryFault.NoMemory }
-    ensures answer { IfOk result (λ a. (state : HubState) (item : HubItem) → IsRefused (cause_of fault) item
-        → answer_item state number item ≡ Some (state, a)) }
+    ensures answer { IfOk result (λ a. (state : HubState) (item : HubJournalItem) → IsRefused (cause_of fault) item
+        → hub_answer_item state number item ≡ Some (state, a)) }
     ensures none { IfOk result (λ a. a.payload ≡ None) }
 {
     let line = fault_line(alloc, number, &fault)?;
@@ -66,10 +66,10 @@ fn answer_change(
     change: &HubChange,
 ) -> Result<StoredAnswer, AllocError>
     requires counts_fit { all_counts_fit (edits_of (hub_change_tree change.now)) ≡ true }
-    ensures answer { IfOk result (λ a. answer_item (state_of hub.old) number
-        (Ok (hub_change_tree change.now)) ≡ Some (state_of hub.new, a)) }
+    ensures answer { IfOk result (λ a. hub_answer_item (hub_state_of hub.old) number
+        (Ok (hub_change_tree change.now)) ≡ Some (hub_state_of hub.new, a)) }
     ensures reads { IfOk result (λ a.
-        IfSome a.payload (ReadsAsChange (Ok (hub_change_tree change.now)))) }
+        IfSome a.payload (ReadsAsHubChange (Ok (hub_change_tree change.now)))) }
 {
     match change {
         HubChange::One((side, word)) => answer_edit(alloc, hub, number, change, *side, word),
@@ -86,12 +86,12 @@ fn answer_edit(
     side: HubSide,
     word: &Word,
 ) -> Result<StoredAnswer, AllocError>
-    requires is_edit { hub_change_tree change.now ≡ one (place_of side, word_tree word.now) }
+    requires is_edit { hub_change_tree change.now ≡ one (place_of_side side, word_tree word.now) }
     requires counts_fit { all_counts_fit (edits_of (hub_change_tree change.now)) ≡ true }
-    ensures answer { IfOk result (λ a. answer_item (state_of hub.old) number
-        (Ok (hub_change_tree change.now)) ≡ Some (state_of hub.new, a)) }
+    ensures answer { IfOk result (λ a. hub_answer_item (hub_state_of hub.old) number
+        (Ok (hub_change_tree change.now)) ≡ Some (hub_state_of hub.new, a)) }
     ensures reads { IfOk result (λ a.
-        IfSome a.payload (ReadsAsChange (Ok (hub_change_tree change.now)))) }
+        IfSome a.payload (ReadsAsHubChange (Ok (hub_change_tree change.now)))) }
 {
     lenses_are_low(hub.lenses());
     match hub.step(side, word) {
@@ -117,10 +117,10 @@ fn answer_group(
 ) -> Result<StoredAnswer, AllocError>
     requires is_group { hub_change_tree change.now ≡ group (edit_trees edits.now) }
     requires counts_fit { all_counts_fit (edits_of (hub_change_tree change.now)) ≡ true }
-    ensures answer { IfOk result (λ a. answer_item (state_of hub.old) number
-        (Ok (hub_change_tree change.now)) ≡ Some (state_of hub.new, a)) }
+    ensures answer { IfOk result (λ a. hub_answer_item (hub_state_of hub.old) number
+        (Ok (hub_change_tree change.now)) ≡ Some (hub_state_of hub.new, a)) }
     ensures reads { IfOk result (λ a.
-        IfSome a.payload (ReadsAsChange (Ok (hub_change_tree change.now)))) }
+        IfSome a.payload (ReadsAsHubChange (Ok (hub_change_tree change.now)))) }
 {
     lenses_are_low(hub.lenses());
     match hub.step_all(edits) {
@@ -143,10 +143,10 @@ fn accepted(alloc: Global, line: Bytes, change: &HubChange) -> Result<StoredAnsw
     requires counts_fit { all_counts_fit (edits_of (hub_change_tree change.now)) ≡ true }
     ensures line { IfOk result (λ a. a.line ≡ line) }
     ensures payload { IfOk result (λ a.
-        a.payload ≡ Some (change_text (hub_change_tree change.now))) }
+        a.payload ≡ Some (hub_change_text (hub_change_tree change.now))) }
     ensures reads { IfOk result (λ a.
         depth (tree_of_hub_change (hub_change_tree change.now)) ≤ max_depth
-        → IfSome a.payload (ReadsAsChange (Ok (hub_change_tree change.now)))) }
+        → IfSome a.payload (ReadsAsHubChange (Ok (hub_change_tree change.now)))) }
 {
     let payload = change_payload(alloc, change)?;
     Ok(StoredAnswer {

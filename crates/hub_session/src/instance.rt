@@ -12,30 +12,30 @@ use store_run::{Opened, ReopenFault, StoredAnswer, StoredSession};
 use texts::Bytes;
 
 impl StoredSession for HubSession {
-    ghost use Rattle.hub_run.specs.RunStates.{state_of};
-    ghost use Rattle.hub_run.specs.Runs.{HubState, state_text};
+    ghost use Rattle.hub_run.specs.RunStates.{hub_state_of};
+    ghost use Rattle.hub_run.specs.Runs.{HubState, hub_state_text};
     ghost use Rattle.hub_session.specs.AnswerSteps.{refused_stays};
-    ghost use Rattle.hub_session.specs.HubAnswers.{answer};
+    ghost use Rattle.hub_session.specs.HubAnswers.{stored_hub_answer};
     ghost use Rattle.hub_session.specs.HubStates as states;
     ghost use Rattle.hub_session.specs.PayloadLaws as laws;
 
     ghost State = { HubState };
 
-    ghost state = { λ s. state_of s.hub };
+    ghost state = { λ s. hub_state_of s.hub };
 
-    ghost answer = { answer };
+    ghost answer = { stored_hub_answer };
 
-    ghost is_step = { states.IsStep };
+    ghost is_step = { states.IsHubStep };
 
-    ghost state_text = { state_text };
+    ghost state_text = { hub_state_text };
 
-    ghost snapshot_text = { states.snapshot_text };
+    ghost snapshot_text = { states.hub_snapshot_text };
 
-    ghost has_snapshot = { states.HasSnapshot };
+    ghost has_snapshot = { states.HasHubSnapshot };
 
-    ghost count_of = { states.count_of };
+    ghost count_of = { states.hub_changes_counted };
 
-    ghost stands_for = { states.stands_for };
+    ghost stands_for = { states.hub_stands_for };
 
     ghost version_stands = { laws.version_stands };
 

@@ -6,7 +6,7 @@ ghost use Rattle.serde_json.specs.Written.{compact_text};
 ghost use Rattle.edit_json.specs.Tokens.{tokens_of};
 ghost use Rattle.edit_module.specs.Views.{word_trees};
 ghost use Rattle.hub_run.specs.Answers.{tree_of_words};
-ghost use Rattle.view_hub.specs.Views.{carried_tree};
+ghost use Rattle.view_hub.specs.Views.{hub_carried_tree};
 ghost use Rattle.hub_session.specs.HubAnswers.{group_no_view_line, group_ok_line, items_of_carried, tree_of_carried};
 
 use edit_json::put_word;
@@ -29,7 +29,7 @@ pub(crate) fn group_ok_line(
     number: u64,
     words: &[HubCarried],
 ) -> Result<Bytes, AllocError>
-    ensures { IfOk result (λ line. line ≡ group_ok_line number (map carried_tree words.now)) }
+    ensures { IfOk result (λ line. line ≡ group_ok_line number (map hub_carried_tree words.now)) }
 {
     let mut digits = Buffer::new();
     let mut line = Vec::with_capacity(alloc, USUAL)?;
@@ -44,7 +44,7 @@ pub(crate) fn group_ok_line(
 // These bytes, and behind them the compact JSON of the array of the words of each edit.
 fn append_all(bytes: Vec<u8>, words: &[HubCarried]) -> Result<Vec<u8>, AllocError>
     ensures text { IfOk result (λ all. all.items
-        ≡ bytes.items ++ compact_text (array (items_of_carried (map carried_tree words.now)))) }
+        ≡ bytes.items ++ compact_text (array (items_of_carried (map hub_carried_tree words.now)))) }
 {
     let mut out = Writer::new(bytes);
     put_all(&mut out, words)?;
@@ -56,7 +56,7 @@ fn append_all(bytes: Vec<u8>, words: &[HubCarried]) -> Result<Vec<u8>, AllocErro
 fn put_all(out: &mut Writer, words: &[HubCarried]) -> Result<(), AllocError>
     ensures before { out.new.before ≡ out.old.before }
     ensures tokens { OnOk result (out.new.tokens
-        ≡ out.old.tokens ++ tokens_of (array (items_of_carried (map carried_tree words.now)))) }
+        ≡ out.old.tokens ++ tokens_of (array (items_of_carried (map hub_carried_tree words.now)))) }
 {
     out.begin_array()?;
     for carried in words {
@@ -69,7 +69,7 @@ fn put_all(out: &mut Writer, words: &[HubCarried]) -> Result<(), AllocError>
 fn put_carried(out: &mut Writer, carried: &HubCarried) -> Result<(), AllocError>
     ensures before { out.new.before ≡ out.old.before }
     ensures tokens { OnOk result (out.new.tokens
-        ≡ out.old.tokens ++ tokens_of (tree_of_carried (carried_tree carried.now))) }
+        ≡ out.old.tokens ++ tokens_of (tree_of_carried (hub_carried_tree carried.now))) }
 {
     out.begin_object()?;
     out.key("hub")?;

@@ -13,11 +13,12 @@ use Rattle.edit_module.specs.Words.{WordTree}
 use Rattle.hub_run.specs.FormLenses.{form_lens}
 use Rattle.hub_records.specs.HubChanges.{HubChangeTree, edits_of}
 use Rattle.hub_records.specs.HubLenses.{forms_of_payload}
-use Rattle.hub_records.specs.HubRecords.{change_record, add_record, snapshot_record, change_in, add_in, snapshot_in, record_of, record_in}
-use Rattle.hub_records.specs.HubStands.{HubStanding, step_of, after_step, after_record, going_on, after_payloads, at_start, from_opening, stands_for}
+use Rattle.hub_records.specs.HubRecords.{change_record, add_record, snapshot_record, hub_change_in, add_in, hub_snapshot_in, hub_record_of, hub_record_in}
+use Rattle.hub_records.specs.HubStands.{HubStanding, hub_step_of, hub_after_step, hub_after_record, hub_going_on, hub_after_payloads, hub_at_start, hub_from_opening, stands_as_hub}
 use Rattle.hub_records.proofs.StoodInStep.{firsts}
-use Rattle.hub_undo.specs.HubUndone.{joined_carried, undone_step, undone_behind, undone_first, no_words}
-use Rattle.hub_undo.specs.HubUndoing.{change_of, changes_of, edits_of_all, payloads_before, last_changes}
+use Rattle.hub_undo.specs.HubUndone.{joined_carried, undone_step, undone_behind, undone_first, no_hub_words}
+use Rattle.hub_undo.specs.HubUndoing.{hub_change_of, hub_changes_of, edits_of_all, last_hub_changes}
+use Rattle.store_undo.specs.Undoing.{payloads_before}
 use Rattle.hub_undo.specs.UndoMaking.{UndoneBy}
 
 -- ---- payloads in two parts
@@ -25,56 +26,56 @@ use Rattle.hub_undo.specs.UndoMaking.{UndoneBy}
 -- what the front of some payloads makes of a standing, and that the others go on from there
 pub record Goes (n : ℕ) (s u : HubStanding) (ps qs : List (List ℕ)) : Type 0 where
   pub mid : HubStanding
-  pub front : after_payloads n s ps ≡ Ok mid
+  pub front : hub_after_payloads n s ps ≡ Ok mid
   pub number : ℕ
-  pub others : after_payloads number mid qs ≡ Ok u
+  pub others : hub_after_payloads number mid qs ≡ Ok u
 
-first_goes : (n : ℕ) (s u : HubStanding) (p : List ℕ) (ps qs : List (List ℕ)) (r : Result HubStanding RecordFault) → after_record n s (record_in p) ≡ r
-    → ((t : HubStanding) → after_payloads (n + 1) t (ps ++ qs) ≡ Ok u → Goes (n + 1) t u ps qs)
-    → going_on (λ t. after_payloads (n + 1) t (ps ++ qs)) r ≡ Ok u → Goes n s u (p ∷ ps) qs
+first_goes : (n : ℕ) (s u : HubStanding) (p : List ℕ) (ps qs : List (List ℕ)) (r : Result HubStanding RecordFault) → hub_after_record n s (hub_record_in p) ≡ r
+    → ((t : HubStanding) → hub_after_payloads (n + 1) t (ps ++ qs) ≡ Ok u → Goes (n + 1) t u ps qs)
+    → hub_going_on (λ t. hub_after_payloads (n + 1) t (ps ++ qs)) r ≡ Ok u → Goes n s u (p ∷ ps) qs
 first_goes n s u p ps qs (Ok t) is rest h =
     let g = rest t h in
-    record { mid = g.mid; front = ap (going_on (λ x. after_payloads (n + 1) x ps)) is ∙ g.front; number = g.number; others = g.others }
+    record { mid = g.mid; front = ap (hub_going_on (λ x. hub_after_payloads (n + 1) x ps)) is ∙ g.front; number = g.number; others = g.others }
 first_goes n s u p ps qs (Err fault) is rest h = absurd cc
 
-goes_on : (n : ℕ) (s u : HubStanding) (ps qs : List (List ℕ)) → after_payloads n s (ps ++ qs) ≡ Ok u → Goes n s u ps qs
+goes_on : (n : ℕ) (s u : HubStanding) (ps qs : List (List ℕ)) → hub_after_payloads n s (ps ++ qs) ≡ Ok u → Goes n s u ps qs
 goes_on n s u [] qs h = record { mid = s; front = refl; number = n; others = h }
 goes_on n s u (p ∷ ps) qs h =
-    first_goes n s u p ps qs (after_record n s (record_in p)) refl (λ t e. goes_on (n + 1) t u ps qs e) h
+    first_goes n s u p ps qs (hub_after_record n s (hub_record_in p)) refl (λ t e. goes_on (n + 1) t u ps qs e) h
 
 -- the same of all payloads, of which the front has one at least
 pub record StoodFirst (held : List (List ℕ)) (n : ℕ) (now : HubStanding) : Type 0 where
   pub was : HubStanding
-  pub stood : stands_for (take n held) ≡ Ok was
+  pub stood : stands_as_hub (take n held) ≡ Ok was
   pub number : ℕ
-  pub others : after_payloads number was (drop n held) ≡ Ok now
+  pub others : hub_after_payloads number was (drop n held) ≡ Ok now
 
-of_opening : (q : List ℕ) (ps qs : List (List ℕ)) (o : Option (List FormTree)) (now : HubStanding) → forms_of_payload q ≡ o → from_opening (ps ++ qs) o ≡ Ok now
-    → (was : HubStanding) × (stands_for (q ∷ ps) ≡ Ok was) × (number : ℕ) × (after_payloads number was qs ≡ Ok now)
+of_opening : (q : List ℕ) (ps qs : List (List ℕ)) (o : Option (List FormTree)) (now : HubStanding) → forms_of_payload q ≡ o → hub_from_opening (ps ++ qs) o ≡ Ok now
+    → (was : HubStanding) × (stands_as_hub (q ∷ ps) ≡ Ok was) × (number : ℕ) × (hub_after_payloads number was qs ≡ Ok now)
 of_opening q ps qs (Some forms) now is h =
-    let g = goes_on 2 (at_start forms) now ps qs h in
-    (g.mid, ap (from_opening ps) is ∙ g.front, g.number, g.others)
+    let g = goes_on 2 (hub_at_start forms) now ps qs h in
+    (g.mid, ap (hub_from_opening ps) is ∙ g.front, g.number, g.others)
 of_opening q ps qs None now is h = absurd cc
 
-pub stood_first : (held : List (List ℕ)) (n : ℕ) (now : HubStanding) → 0 < n → stands_for held ≡ Ok now → StoodFirst held n now
+pub stood_first : (held : List (List ℕ)) (n : ℕ) (now : HubStanding) → 0 < n → stands_as_hub held ≡ Ok now → StoodFirst held n now
 stood_first held zero now some h = absurd (omega (arith, some))
 stood_first [] (suc k) now some h = absurd cc
 stood_first (q ∷ ps) (suc k) now some h =
-    let parts : stands_for (q ∷ (take k ps ++ drop k ps)) ≡ Ok now = ap (λ rest. stands_for (q ∷ rest)) (take-append-drop k ps) ∙ h in
+    let parts : stands_as_hub (q ∷ (take k ps ++ drop k ps)) ≡ Ok now = ap (λ rest. stands_as_hub (q ∷ rest)) (take-append-drop k ps) ∙ h in
     let g = of_opening q (take k ps) (drop k ps) (forms_of_payload q) now refl parts in
     record { was = g.0; stood = g.1; number = g.2; others = g.3 }
 
 -- ---- a payload of a change
 
-with_change : (d : Data) (c : HubChangeTree) → change_in d ≡ Some c → record_of d ≡ Some (change_record c)
+with_change : (d : Data) (c : HubChangeTree) → hub_change_in d ≡ Some c → hub_record_of d ≡ Some (change_record c)
 with_change d c is =
-    ap (λ o. option_or (option_map change_record o) (option_or (option_map add_record (add_in d)) (option_map snapshot_record (snapshot_in d)))) is
+    ap (λ o. option_or (option_map change_record o) (option_or (option_map add_record (add_in d)) (option_map snapshot_record (hub_snapshot_in d)))) is
 
-of_tree : (o : Option Data) (c : HubChangeTree) → option_and_then change_in o ≡ Some c → option_and_then record_of o ≡ Some (change_record c)
+of_tree : (o : Option Data) (c : HubChangeTree) → option_and_then hub_change_in o ≡ Some c → option_and_then hub_record_of o ≡ Some (change_record c)
 of_tree (Some d) c is = with_change d c is
 of_tree None c is = cc
 
-pub change_is_record : (p : List ℕ) (c : HubChangeTree) → change_of p ≡ Some c → record_in p ≡ Some (change_record c)
+pub change_is_record : (p : List ℕ) (c : HubChangeTree) → hub_change_of p ≡ Some c → hub_record_in p ≡ Some (change_record c)
 change_is_record p c is = of_tree (tree_of_text p) c is
 
 -- ---- the changes go on from one hub to the other
@@ -82,7 +83,7 @@ change_is_record p c is = of_tree (tree_of_text p) c is
 abbrev pub Stepped : List FormTree → HubTree → List HubChangeTree → HubTree → Type 0
 Stepped forms h [] k = h ≡ k
 Stepped forms h (c ∷ cs) k =
-    (m : HubTree × List CarriedTree) × (step_of forms h c ≡ Some (Ok m)) × Stepped forms m.0 cs k
+    (m : HubTree × List CarriedTree) × (hub_step_of forms h c ≡ Some (Ok m)) × Stepped forms m.0 cs k
 
 -- the first of the changes, and the others
 changes_front : (o : Option HubChangeTree) (others : Option (List HubChangeTree)) (cs : List HubChangeTree) → option_and_then (λ c. option_map (λ more. c ∷ more) others) o ≡ Some cs
@@ -91,7 +92,7 @@ changes_front (Some c) (Some more) cs h = (c, refl, more, refl, cc)
 changes_front (Some c) None cs h = absurd cc
 changes_front None others cs h = absurd cc
 
-step_made : (n : ℕ) (s t : HubStanding) (o : Option GroupStepped) → after_step n s o ≡ Ok t
+step_made : (n : ℕ) (s t : HubStanding) (o : Option GroupStepped) → hub_after_step n s o ≡ Ok t
     → (m : HubTree × List CarriedTree) × (o ≡ Some (Ok m)) × (s.forms ≡ t.forms) × (m.0 ≡ t.hub)
 step_made n s t (Some (Ok m)) h =
     let same : record s { hub = m.0; count = s.count + 1 } ≡ t = cc in
@@ -99,23 +100,23 @@ step_made n s t (Some (Ok m)) h =
 step_made n s t (Some (Err why)) h = absurd cc
 step_made n s t None h = absurd cc
 
-next_goes : (r : Result HubStanding RecordFault) (others : HubStanding → Result HubStanding RecordFault) (u : HubStanding) → going_on others r ≡ Ok u
+next_goes : (r : Result HubStanding RecordFault) (others : HubStanding → Result HubStanding RecordFault) (u : HubStanding) → hub_going_on others r ≡ Ok u
     → (t : HubStanding) × (r ≡ Ok t) × (others t ≡ Ok u)
 next_goes (Ok t) others u h = (t, refl, h)
 next_goes (Err fault) others u h = absurd cc
 
-pub changes_step : (n : ℕ) (s u : HubStanding) (ps : List (List ℕ)) (cs : List HubChangeTree) → after_payloads n s ps ≡ Ok u → changes_of ps ≡ Some cs
+pub changes_step : (n : ℕ) (s u : HubStanding) (ps : List (List ℕ)) (cs : List HubChangeTree) → hub_after_payloads n s ps ≡ Ok u → hub_changes_of ps ≡ Some cs
     → (s.forms ≡ u.forms) × Stepped s.forms s.hub cs u.hub
 changes_step n s u [] cs h is =
     let same : s ≡ u = cc in
     let none : [] ≡ cs = cc in
     (ap (λ (x : HubStanding). x.forms) same, subst (λ cs. Stepped s.forms s.hub cs u.hub) none (ap (λ (x : HubStanding). x.hub) same))
 changes_step n s u (p ∷ ps) cs h is =
-    let f = changes_front (change_of p) (changes_of ps) cs is in
-    let g = next_goes (after_record n s (record_in p)) (λ t. after_payloads (n + 1) t ps) u h in
+    let f = changes_front (hub_change_of p) (hub_changes_of ps) cs is in
+    let g = next_goes (hub_after_record n s (hub_record_in p)) (λ t. hub_after_payloads (n + 1) t ps) u h in
     let t = g.0 in
-    let made : after_step n s (step_of s.forms s.hub f.0) ≡ Ok t = sym (ap (after_record n s) (change_is_record p f.0 f.1)) ∙ g.1 in
-    let m = step_made n s t (step_of s.forms s.hub f.0) made in
+    let made : hub_after_step n s (hub_step_of s.forms s.hub f.0) ≡ Ok t = sym (ap (hub_after_record n s) (change_is_record p f.0 f.1)) ∙ g.1 in
+    let m = step_made n s t (hub_step_of s.forms s.hub f.0) made in
     let rest = changes_step (n + 1) t u ps f.2 g.2 f.3 in
     let at_forms = subst (λ fs. Stepped fs t.hub f.2 u.hub) (sym m.2) rest.1 in
     let at_hub = subst (λ (x : HubTree). Stepped s.forms x f.2 u.hub) (sym m.3) at_forms in
@@ -149,14 +150,14 @@ module _ (forms : List FormTree) where
   changes_behind [] words h k same = ((h, words), refl, same)
   changes_behind (c ∷ cs) words h k s = group_undone (edits_of c) (edits_of_all cs) words h k s.0 s.1 (λ behind. changes_behind cs behind s.0.0 k s.2)
 
-  pub changes_undone : (cs : List HubChangeTree) (h k : HubTree) → Stepped forms h cs k → UndoneTo (no_words (length forms)) h (edits_of_all cs) k
-  changes_undone cs h k s = changes_behind cs (no_words (length forms)) h k s
+  pub changes_undone : (cs : List HubChangeTree) (h k : HubTree) → Stepped forms h cs k → UndoneTo (no_hub_words (length forms)) h (edits_of_all cs) k
+  changes_undone cs h k s = changes_behind cs (no_hub_words (length forms)) h k s
 
 -- ---- the last changes of payloads that stand
 
 pub record Earlier (count : ℕ) (held : List (List ℕ)) (now : HubStanding) (changes : List HubChangeTree) : Type 0 where
   pub was : HubStanding
-  pub stood : stands_for (payloads_before count held) ≡ Ok was
+  pub stood : stands_as_hub (payloads_before count held) ≡ Ok was
   pub forms : was.forms ≡ now.forms
   pub made : HubTree × CarriedTree
   pub undone_is : UndoneBy was.forms was.hub changes made
@@ -167,13 +168,13 @@ if_some true o cs h = (refl, h)
 if_some false o cs h = absurd cc
 
 -- there are so many payloads behind the first one, and these changes are those of the last ones
-pub some_last : (count : ℕ) (held : List (List ℕ)) (cs : List HubChangeTree) → last_changes count held ≡ Some cs
-    → (count < length held) × (changes_of (drop (length held - count) held) ≡ Some cs)
+pub some_last : (count : ℕ) (held : List (List ℕ)) (cs : List HubChangeTree) → last_hub_changes count held ≡ Some cs
+    → (count < length held) × (hub_changes_of (drop (length held - count) held) ≡ Some cs)
 some_last count held cs h =
-    let p = if_some (nat_lt count (length held)) (changes_of (drop (length held - count) held)) cs h in
+    let p = if_some (nat_lt count (length held)) (hub_changes_of (drop (length held - count) held)) cs h in
     (ltb-true count (length held) p.0, p.1)
 
-pub earlier : (count : ℕ) (held : List (List ℕ)) (now : HubStanding) (changes : List HubChangeTree) → stands_for held ≡ Ok now → last_changes count held ≡ Some changes → Earlier count held now changes
+pub earlier : (count : ℕ) (held : List (List ℕ)) (now : HubStanding) (changes : List HubChangeTree) → stands_as_hub held ≡ Ok now → last_hub_changes count held ≡ Some changes → Earlier count held now changes
 earlier count held now changes stood last =
     let l = some_last count held changes last in
     let s = stood_first held (length held - count) now (omega (arith, l.0)) stood in

@@ -11,8 +11,8 @@ use Rattle.lens_core.specs.declared.lens.EditLens as OfLens
 use Rattle.view_hub.specs.Hubs.{ViewTree, HubTree, CarriedTree}
 use Rattle.view_hub.specs.Laws.{AllInStep, IsHub}
 use Rattle.view_hub.specs.declared.side.HubCarried.{HubCarried}
-use Rattle.view_hub.specs.Views.{carried_tree}
-use Rattle.hub_undo.specs.HubUndone.{BringsBack, BringHubBack, BringViewsBack, joined_carried, joined_views, no_view_words, no_words}
+use Rattle.view_hub.specs.Views.{hub_carried_tree}
+use Rattle.hub_undo.specs.HubUndone.{BringsBack, BringHubBack, BringViewsBack, joined_carried, joined_views, no_view_words, no_hub_words}
 use Rattle.hub_undo.specs.UndoSteps.{HasViews, in_front, joined_all}
 use Rattle.hub_undo.specs.UndoViews.{carried_trees}
 
@@ -60,10 +60,10 @@ carried_assoc a b c =
     same_carried (joined (joined a.hub b.hub) c.hub) (joined a.hub (joined b.hub c.hub)) (joined_views (joined_views a.views b.views) c.views) (joined_views a.views (joined_views b.views c.views))
     (joined_assoc a.hub b.hub c.hub) (views_assoc a.views b.views c.views)
 
-carried_none : (n : ℕ) (c : CarriedTree) → length c.views ≡ n → joined_carried c (no_words n) ≡ c
+carried_none : (n : ℕ) (c : CarriedTree) → length c.views ≡ n → joined_carried c (no_hub_words n) ≡ c
 carried_none n c is = same_carried (joined c.hub no_primitives) c.hub (joined_views c.views (no_view_words n)) c.views (joined_nothing c.hub) (views_none n c.views is)
 
-none_carried : (n : ℕ) (c : CarriedTree) → length c.views ≡ n → joined_carried (no_words n) c ≡ c
+none_carried : (n : ℕ) (c : CarriedTree) → length c.views ≡ n → joined_carried (no_hub_words n) c ≡ c
 none_carried n c is = same_carried (joined no_primitives c.hub) c.hub (joined_views (no_view_words n) c.views) c.views refl (none_views n c.views is)
 
 all_count : (n : ℕ) (cs : List CarriedTree) → HasViews n cs → length (joined_all n cs).views ≡ n
@@ -77,8 +77,8 @@ front_joined n (c ∷ cs) words has is =
     front_joined n cs (joined_carried c words) has.1 (views_count n c.views words.views has.0 is)
     ∙ sym (carried_assoc (joined_all n cs) c words)
 
-pub all_in_front : (n : ℕ) (cs : List CarriedTree) → HasViews n cs → in_front cs (no_words n) ≡ joined_all n cs
-all_in_front n cs has = front_joined n cs (no_words n) has (no_views_count n) ∙ carried_none n (joined_all n cs) (all_count n cs has)
+pub all_in_front : (n : ℕ) (cs : List CarriedTree) → HasViews n cs → in_front cs (no_hub_words n) ≡ joined_all n cs
+all_in_front n cs has = front_joined n cs (no_hub_words n) has (no_views_count n) ∙ carried_none n (joined_all n cs) (all_count n cs has)
 
 pub front_append : (cs ds : List CarriedTree) (words : CarriedTree) → in_front (cs ++ ds) words ≡ in_front ds (in_front cs words)
 front_append [] ds words = refl
@@ -94,8 +94,8 @@ all_append : (n : ℕ) (cs ds : List CarriedTree) → HasViews n ds → joined_a
 all_append n [] ds has = sym (carried_none n (joined_all n ds) (all_count n ds has))
 all_append n (c ∷ cs) ds has = ap (λ x. joined_carried x c) (all_append n cs ds has) ∙ carried_assoc (joined_all n ds) (joined_all n cs) c
 
-trees_more : (parts more : List HubCarried) (part : HubCarried) → more ≡ parts ++ part ∷ [] → carried_trees more ≡ carried_trees parts ++ carried_tree part ∷ []
-trees_more parts more part e = ap carried_trees e ∙ map-append carried_tree parts (part ∷ [])
+trees_more : (parts more : List HubCarried) (part : HubCarried) → more ≡ parts ++ part ∷ [] → carried_trees more ≡ carried_trees parts ++ hub_carried_tree part ∷ []
+trees_more parts more part e = ap carried_trees e ∙ map-append hub_carried_tree parts (part ∷ [])
 
 views_front : (n : ℕ) (cs ds : List CarriedTree) → HasViews n (cs ++ ds) → HasViews n cs × HasViews n ds
 views_front n [] ds has = (tt, has)
@@ -105,22 +105,22 @@ views_front n (c ∷ cs) ds has = let rest = views_front n cs ds has.1 in ((has.
 abbrev pub Joining : ℕ → CarriedTree → List CarriedTree → CarriedTree → Type 0
 Joining n so_far left all = (length so_far.views ≡ n) × HasViews n left × (joined_carried so_far (joined_all n left) ≡ all)
 
-pub joining_none : (n : ℕ) (c : CarriedTree) (cs : List CarriedTree) → c ≡ no_words n → HasViews n cs → Joining n c cs (joined_all n cs)
+pub joining_none : (n : ℕ) (c : CarriedTree) (cs : List CarriedTree) → c ≡ no_hub_words n → HasViews n cs → Joining n c cs (joined_all n cs)
 joining_none n c cs is has =
     subst (λ (x : CarriedTree). Joining n x cs (joined_all n cs)) (sym is) (no_views_count n, has, none_carried n (joined_all n cs) (all_count n cs has))
 
-pub joining_last : (n : ℕ) (so_far joined_now all : CarriedTree) (parts more : List HubCarried) (part : HubCarried) → more ≡ parts ++ part ∷ [] → joined_now ≡ joined_carried so_far (carried_tree part)
+pub joining_last : (n : ℕ) (so_far joined_now all : CarriedTree) (parts more : List HubCarried) (part : HubCarried) → more ≡ parts ++ part ∷ [] → joined_now ≡ joined_carried so_far (hub_carried_tree part)
     → Joining n so_far (carried_trees more) all → Joining n joined_now (carried_trees parts) all
 joining_last n so_far joined_now all parts more part e made j =
     let trees = trees_more parts more part e in
-    let has = views_front n (carried_trees parts) (carried_tree part ∷ []) (subst (HasViews n) trees j.1) in
-    let last : joined_all n (carried_tree part ∷ []) ≡ carried_tree part = none_carried n (carried_tree part) has.1.0 in
-    let all_trees : joined_all n (carried_trees more) ≡ joined_carried (carried_tree part) (joined_all n (carried_trees parts)) =
-    ap (joined_all n) trees ∙ all_append n (carried_trees parts) (carried_tree part ∷ []) has.1 ∙ ap (λ x. joined_carried x (joined_all n (carried_trees parts))) last in
+    let has = views_front n (carried_trees parts) (hub_carried_tree part ∷ []) (subst (HasViews n) trees j.1) in
+    let last : joined_all n (hub_carried_tree part ∷ []) ≡ hub_carried_tree part = none_carried n (hub_carried_tree part) has.1.0 in
+    let all_trees : joined_all n (carried_trees more) ≡ joined_carried (hub_carried_tree part) (joined_all n (carried_trees parts)) =
+    ap (joined_all n) trees ∙ all_append n (carried_trees parts) (hub_carried_tree part ∷ []) has.1 ∙ ap (λ x. joined_carried x (joined_all n (carried_trees parts))) last in
     subst (λ (x : CarriedTree). Joining n x (carried_trees parts) all) (sym made) (
-      views_count n so_far.views (carried_tree part).views j.0 has.1.0,
+      views_count n so_far.views (hub_carried_tree part).views j.0 has.1.0,
       has.0,
-      carried_assoc so_far (carried_tree part) (joined_all n (carried_trees parts)) ∙ ap (joined_carried so_far) (sym all_trees) ∙ j.2,
+      carried_assoc so_far (hub_carried_tree part) (joined_all n (carried_trees parts)) ∙ ap (joined_carried so_far) (sym all_trees) ∙ j.2,
     )
 
 pub joining_end : (n : ℕ) (so_far all : CarriedTree) (parts : List HubCarried) → length parts ≡ 0 → Joining n so_far (carried_trees parts) all → so_far ≡ all
@@ -163,7 +163,7 @@ module _ {L : Type 0} (lens : OfLens.Ghosts L) where
   views_still ty (l ∷ ls) x [] all = absurd all
   views_still ty (l ∷ ls) x (v ∷ vs) all = (refl, views_still ty ls x vs all.2)
 
-  pub back_none : (ls : List L) (h : HubTree) → IsHub lens ls h → BringsBack lens ls (no_words (length ls)) h h
+  pub back_none : (ls : List L) (h : HubTree) → IsHub lens ls h → BringsBack lens ls (no_hub_words (length ls)) h h
   back_none [] h all = absurd all
   back_none (l ∷ ls) h all = record { hub_back = refl; views_back = views_still (lens.left_type l) (l ∷ ls) h.hub h.views all }
 
@@ -185,8 +185,8 @@ trees_count : {X Y : Type 0} (f : X → Y) (xs : List X) → length (map f xs) �
 trees_count f [] = refl
 trees_count f (x ∷ xs) = ap suc (trees_count f xs)
 
-pub last_views : (n : ℕ) (so_far part : HubCarried) (parts more : List HubCarried) (all : CarriedTree) → more ≡ parts ++ part ∷ [] → Joining n (carried_tree so_far) (carried_trees more) all
+pub last_views : (n : ℕ) (so_far part : HubCarried) (parts more : List HubCarried) (all : CarriedTree) → more ≡ parts ++ part ∷ [] → Joining n (hub_carried_tree so_far) (carried_trees more) all
     → length so_far.views ≡ length part.views
 last_views n so_far part parts more all e j =
-    let has = views_front n (carried_trees parts) (carried_tree part ∷ []) (subst (HasViews n) (trees_more parts more part e) j.1) in
+    let has = views_front n (carried_trees parts) (hub_carried_tree part ∷ []) (subst (HasViews n) (trees_more parts more part e) j.1) in
     sym (trees_count word_tree so_far.views) ∙ j.0 ∙ sym has.1.0 ∙ trees_count word_tree part.views

@@ -12,7 +12,7 @@ use Rattle.hub_run.specs.FormLenses.{form_lens}
 use Rattle.hub_run.specs.Runs.{hub_state_lines}
 use Rattle.hub_records.specs.HubChanges.{HubChangeTree}
 use Rattle.hub_records.specs.HubRecords.{tree_of_hub_snapshot}
-use Rattle.hub_records.specs.HubStands.{HubStanding, stands_for}
+use Rattle.hub_records.specs.HubStands.{HubStanding, stands_as_hub}
 use Rattle.hub_records.specs.Outcomes.{IsStandFault}
 use Rattle.hub_records.specs.WholeInts.{hub_holds_i64s}
 use Rattle.hub_records.proofs.StoodInStep.{stood_sound}
@@ -20,7 +20,8 @@ use Rattle.hub_records.proofs.WrittenStands.{hub_stands}
 use Rattle.serde_json.specs.Written.{compact_text}
 use Rattle.edit_journal.specs.EntryJson.{tree_of_text}
 use Rattle.hub_undo.specs.HubUndone.{BringsBack}
-use Rattle.hub_undo.specs.HubUndoing.{HubUndoing, TakesBack, last_changes, payloads_before, refusal_of, snapshot_text, undo_refusal, undoing, undoing_from, undoing_of, words_text}
+use Rattle.hub_undo.specs.HubUndoing.{HubUndoing, HubTakesBack, last_hub_changes, hub_refusal_of, hub_undo_snapshot_text, hub_undo_refusal, hub_undoing, hub_undoing_from, hub_undoing_of, words_text}
+use Rattle.store_undo.specs.Undoing.{payloads_before}
 use Rattle.hub_records.specs.Views.{hub_standing}
 use Rattle.hub_run.specs.RunStates.{ready_lens}
 use Rattle.store_undo.specs.Making.{IsMakingFault, fault_of, kept_before}
@@ -30,18 +31,18 @@ use Rattle.hub_undo.specs.declared.making.OpenedTwice.{OpenedTwice}
 use Rattle.hub_undo.proofs.UndoneForms.{hub_of_lenses, same_standing}
 use Rattle.hub_undo.proofs.Earlier.{Earlier, earlier, some_last}
 
-module _ (count : ℕ) (held : List (List ℕ)) (now : HubStanding) (changes : List HubChangeTree) (stood : stands_for held ≡ Ok now) (last : last_changes count held ≡ Some changes) where
+module _ (count : ℕ) (held : List (List ℕ)) (now : HubStanding) (changes : List HubChangeTree) (stood : stands_as_hub held ≡ Ok now) (last : last_hub_changes count held ≡ Some changes) where
   abbrev before : Earlier count held now changes
   before = earlier count held now changes stood last
 
   abbrev pub undoing_now : HubUndoing
   undoing_now = record { now = now; before = before.was.hub; words = before.made.1 }
 
-  pub is_undoing : undoing count held ≡ Some undoing_now
+  pub is_undoing : hub_undoing count held ≡ Some undoing_now
   is_undoing =
-      ap (undoing_of count held) stood
-      ∙ ap (option_and_then (λ cs. undoing_from now cs (stands_for (payloads_before count held)))) last
-      ∙ ap (undoing_from now changes) before.stood
+      ap (hub_undoing_of count held) stood
+      ∙ ap (option_and_then (λ cs. hub_undoing_from now cs (stands_as_hub (payloads_before count held)))) last
+      ∙ ap (hub_undoing_from now changes) before.stood
       ∙ ap (option_map {U = HubUndoing} (λ (r : HubTree × CarriedTree). record { now = now; before = before.was.hub; words = r.1 })) before.undone_is
 
   -- the same texts, in the lenses of what stands now
@@ -52,11 +53,11 @@ module _ (count : ℕ) (held : List (List ℕ)) (now : HubStanding) (changes : L
   in_step_before = subst (λ fs. IsHub form_lens fs before.was.hub) before.forms (stood_sound (payloads_before count held) before.was before.stood).1
 
   module _ (payload lines : List ℕ) (texts : Texts now.forms payload lines) where
-    taken_back : TakesBack held undoing_now
+    taken_back : HubTakesBack held undoing_now
     taken_back = record {
       words = subst (λ (h : HubTree). BringsBack form_lens now.forms before.made.1 h before.was.hub) before.ends texts.back;
       in_step = in_step_before;
-      stand = hub_stands held (snapshot_text undoing_now) now stood before.was.hub (ap tree_of_text (sym texts.snapshot) ∙ texts.reads) (stood_sound held now stood).0 in_step_before texts.whole;
+      stand = hub_stands held (hub_undo_snapshot_text undoing_now) now stood before.was.hub (ap tree_of_text (sym texts.snapshot) ∙ texts.reads) (stood_sound held now stood).0 in_step_before texts.whole;
     }
 
   -- what stood before the changes, in the lenses of what stands now
@@ -70,16 +71,16 @@ module _ (count : ℕ) (held : List (List ℕ)) (now : HubStanding) (changes : L
 -- ---- what was opened
 
 -- where there are so many changes, the payloads before them are kept
-kept_is : (count : ℕ) (held : List (List ℕ)) (cs : List HubChangeTree) → last_changes count held ≡ Some cs → take (kept_before count (length held)) held ≡ payloads_before count held
+kept_is : (count : ℕ) (held : List (List ℕ)) (cs : List HubChangeTree) → last_hub_changes count held ≡ Some cs → take (kept_before count (length held)) held ≡ payloads_before count held
 kept_is count held cs last = ap (λ (b : Bool). take (cond b (length held - count) (length held)) held) (lt-ltb count (length held) (some_last count held cs last).0)
 
-module _ (count : ℕ) (held : List (List ℕ)) (changes : List HubChangeTree) (twice : OpenedTwice) (stood : StoodTwice count held twice) (last : last_changes count held ≡ Some changes) where
+module _ (count : ℕ) (held : List (List ℕ)) (changes : List HubChangeTree) (twice : OpenedTwice) (stood : StoodTwice count held twice) (last : last_hub_changes count held ≡ Some changes) where
   abbrev stands_now : HubStanding
   stands_now = hub_standing twice.opened.hub twice.opened.count
 
   -- what stood before the changes is what was opened first
   same_before : stood.was ≡ (before count held stands_now changes stood.now last).was
-  same_before = same_standing (stands_for (payloads_before count held)) stood.was _ (ap stands_for (sym (kept_is count held changes last)) ∙ stood.before) (before count held stands_now changes stood.now last).stood
+  same_before = same_standing (stands_as_hub (payloads_before count held)) stood.was _ (ap stands_as_hub (sym (kept_is count held changes last)) ∙ stood.before) (before count held stands_now changes stood.now last).stood
 
   same_hub : (before count held stands_now changes stood.now last).was.hub ≡ hub_tree twice.earlier
   same_hub = ap (λ (s : HubStanding). s.hub) (sym same_before) ∙ stood.hub
@@ -106,13 +107,13 @@ module _ (count : ℕ) (held : List (List ℕ)) (changes : List HubChangeTree) (
 -- ---- payloads that are refused
 
 -- payloads that stand, and whose last records are not so many changes
-pub nothing_to_undo : (count : ℕ) (held : List (List ℕ)) (now : HubStanding) → stands_for held ≡ Ok now → last_changes count held ≡ None → undo_refusal count held ≡ refusal_of (Ok now) None
+pub nothing_to_undo : (count : ℕ) (held : List (List ℕ)) (now : HubStanding) → stands_as_hub held ≡ Ok now → last_hub_changes count held ≡ None → hub_undo_refusal count held ≡ hub_refusal_of (Ok now) None
 nothing_to_undo count held now stood none =
-    ap (λ r. refusal_of r (last_changes count held)) stood ∙ ap (refusal_of (Ok now)) none
+    ap (λ r. hub_refusal_of r (last_hub_changes count held)) stood ∙ ap (hub_refusal_of (Ok now)) none
 
-pub refused_fault : (count : ℕ) (held : List (List ℕ)) (fault : RecordFault) → IsStandFault (stands_for held) fault → IsMakingFault (undo_refusal count held) (fault_of fault)
-refused_fault count held (BadRecord number) is = ap (λ r. refusal_of r (last_changes count held)) is
-refused_fault count held (NotConsistent number) is = ap (λ r. refusal_of r (last_changes count held)) is
+pub refused_fault : (count : ℕ) (held : List (List ℕ)) (fault : RecordFault) → IsStandFault (stands_as_hub held) fault → IsMakingFault (hub_undo_refusal count held) (fault_of fault)
+refused_fault count held (BadRecord number) is = ap (λ r. hub_refusal_of r (last_hub_changes count held)) is
+refused_fault count held (NotConsistent number) is = ap (λ r. hub_refusal_of r (last_hub_changes count held)) is
 refused_fault count held NoMemory is = tt
 
 -- ---- the texts of a hub that is as it was

@@ -13,7 +13,7 @@ use Rattle.edit_module.specs.declared.fault.Cause.{Cause}
 use Rattle.edit_module.specs.declared.word.Word.{Word}
 use Rattle.lens_core.specs.declared.lens.EditLens as OfLens
 use Rattle.view_hub.specs.Acting.{ActsTo, ViewsActTo, WordsAct}
-use Rattle.view_hub.specs.Hubs.{ViewTree, HubTree, Place, CarriedTree, Refusal, no_view, no_apply, step}
+use Rattle.view_hub.specs.Hubs.{ViewTree, HubTree, Place, CarriedTree, ViewRefusal, no_view, no_apply, step}
 use Rattle.view_hub.specs.Laws.{IsHub}
 use Rattle.view_hub.specs.Views.{IsHubRefusal, view_tree, view_trees}
 use Rattle.view_hub.specs.declared.fault.HubFault.{HubFault}
@@ -239,13 +239,13 @@ module _ {L : Type 0} (lens : OfLens.Ghosts L) where
     )
 
 -- an edit that is refused
-abbrev pub IsRefused : Option (Result (HubTree × CarriedTree) Refusal) → Type 0
-IsRefused o = (why : Refusal) × (o ≡ Some (Err why))
+abbrev pub IsRefused : Option (Result (HubTree × CarriedTree) ViewRefusal) → Type 0
+IsRefused o = (why : ViewRefusal) × (o ≡ Some (Err why))
 
-pub refused_view : (o : Option (Result (HubTree × CarriedTree) Refusal)) (fault : HubFault) (views : ℕ) → fault ≡ NoView views → IsHubRefusal o fault → IsRefused o
+pub refused_view : (o : Option (Result (HubTree × CarriedTree) ViewRefusal)) (fault : HubFault) (views : ℕ) → fault ≡ NoView views → IsHubRefusal o fault → IsRefused o
 refused_view o fault views same is = (no_view views, subst (IsHubRefusal o) same is)
 
-pub refused_word : (o : Option (Result (HubTree × CarriedTree) Refusal)) (fault : HubFault) (at : ℕ) (cause : Cause) → fault ≡ NoApply at cause → IsHubRefusal o fault → IsRefused o
+pub refused_word : (o : Option (Result (HubTree × CarriedTree) ViewRefusal)) (fault : HubFault) (at : ℕ) (cause : Cause) → fault ≡ NoApply at cause → IsHubRefusal o fault → IsRefused o
 refused_word o fault at cause same is = (no_apply at cause, subst (IsHubRefusal o) same is)
 
 -- ---- as many trees as values

@@ -5,15 +5,15 @@ use Rattle.std.proofs.lemmas.List.{map_more, map-append, take-append-drop, take_
 use Rattle.edit_module.specs.Words.{WordTree}
 use Rattle.edit_module.specs.declared.word.Word.{Word}
 use Rattle.lens_core.specs.declared.lens.EditLens as OfLens
-use Rattle.view_hub.specs.Hubs.{HubTree, Place, CarriedTree, Refusal, step}
+use Rattle.view_hub.specs.Hubs.{HubTree, Place, CarriedTree, ViewRefusal, step}
 use Rattle.view_hub.specs.Laws.{IsHub}
-use Rattle.view_hub.specs.Views.{carried_tree, edit_tree, edit_trees}
+use Rattle.view_hub.specs.Views.{hub_carried_tree, edit_tree, edit_trees}
 use Rattle.view_hub.specs.declared.side.HubCarried.{HubCarried}
 use Rattle.view_hub.specs.declared.side.HubSide.{HubSide}
 use Rattle.hub_records.specs.HubChanges.{HubChangeTree, edits_of}
 use Rattle.hub_records.specs.Views.{hub_change_tree}
 use Rattle.hub_records.specs.declared.change.HubChange.{HubChange}
-use Rattle.hub_undo.specs.HubUndone.{BringsBack, joined_carried, no_words, undone, undone_behind, undone_first, undone_step}
+use Rattle.hub_undo.specs.HubUndone.{BringsBack, joined_carried, no_hub_words, undone, undone_behind, undone_first, undone_step}
 use Rattle.hub_undo.specs.HubUndoing.{edits_of_all}
 use Rattle.hub_undo.specs.UndoMaking.{change_trees}
 use Rattle.hub_undo.specs.UndoSteps.{Fails, Stepping, StepsOver, UndoesEdit, in_front, joined_all}
@@ -26,7 +26,7 @@ Edits = List (Place × WordTree)
 module _ {L : Type 0} (lens : OfLens.Ghosts L) (ls : List L) where
   -- ---- one edit
 
-  first_edit : (behind : CarriedTree) (h : HubTree) (e : Place × WordTree) (es : Edits) (o : Option (Result (HubTree × CarriedTree) Refusal)) → step lens ls h e ≡ o
+  first_edit : (behind : CarriedTree) (h : HubTree) (e : Place × WordTree) (es : Edits) (o : Option (Result (HubTree × CarriedTree) ViewRefusal)) → step lens ls h e ≡ o
       → undone_behind lens ls behind h (e ∷ es)
       ≡ option_and_then (undone_first lens (λ c. joined_carried (undone_step lens ls h c) behind) (λ more next. undone_behind lens ls more next es)) o
   first_edit behind h e es o is =
@@ -40,7 +40,7 @@ module _ {L : Type 0} (lens : OfLens.Ghosts L) (ls : List L) where
     views = (words_count lens ls words g h u.3, tt);
   }
 
-  fail_one : (h : HubTree) (e : Place × WordTree) (why : Refusal) → step lens ls h e ≡ Some (Err why) → Fails lens ls h (e ∷ [])
+  fail_one : (h : HubTree) (e : Place × WordTree) (why : ViewRefusal) → step lens ls h e ≡ Some (Err why) → Fails lens ls h (e ∷ [])
   fail_one h e why is behind more = first_edit behind h e more (Some (Err why)) is
 
   -- ---- one after another
@@ -70,14 +70,14 @@ module _ {L : Type 0} (lens : OfLens.Ghosts L) (ls : List L) where
 
   pub all_over : (h : HubTree) (es : Edits) (ws : List CarriedTree) (g : HubTree) → StepsOver lens ls h es ws g → Some (g, joined_all (length ls) ws) ≡ undone lens ls h es
   all_over h es ws g s =
-      sym (ap (undone lens ls h) (sym (append-nil es)) ∙ s.goes (no_words (length ls)) [] ∙ ap (λ (x : CarriedTree). Some (g, x)) (all_in_front (length ls) ws s.views))
+      sym (ap (undone lens ls h) (sym (append-nil es)) ∙ s.goes (no_hub_words (length ls)) [] ∙ ap (λ (x : CarriedTree). Some (g, x)) (all_in_front (length ls) ws s.views))
 
   pub all_back : (h : HubTree) (es : Edits) (ws : List CarriedTree) (g : HubTree) → IsHub lens ls h → StepsOver lens ls h es ws g → BringsBack lens ls (joined_all (length ls) ws) g h
   all_back h es ws g there s =
-      subst (λ (x : CarriedTree). BringsBack lens ls x g h) (all_in_front (length ls) ws s.views) (s.back (no_words (length ls)) h (back_none lens ls h there))
+      subst (λ (x : CarriedTree). BringsBack lens ls x g h) (all_in_front (length ls) ws s.views) (s.back (no_hub_words (length ls)) h (back_none lens ls h there))
 
   pub all_fail : (h : HubTree) (es : Edits) → Fails lens ls h es → None ≡ undone lens ls h es
-  all_fail h es f = sym (ap (undone lens ls h) (sym (append-nil es)) ∙ f (no_words (length ls)) [])
+  all_fail h es f = sym (ap (undone lens ls h) (sym (append-nil es)) ∙ f (no_hub_words (length ls)) [])
 
 -- ---- the lists
 
@@ -104,8 +104,8 @@ changes_parted cs n =
     sym (of_all_append (change_trees (take n cs)) (change_trees (drop n cs)))
     ∙ ap edits_of_all (sym (map-append hub_change_tree (take n cs) (drop n cs)) ∙ ap change_trees (take-append-drop n cs))
 
-pushed : (parts more : List HubCarried) (b : HubCarried) → more ≡ parts ++ b ∷ [] → carried_trees more ≡ carried_trees parts ++ carried_tree b ∷ []
-pushed parts more b e = ap carried_trees e ∙ map-append carried_tree parts (b ∷ [])
+pushed : (parts more : List HubCarried) (b : HubCarried) → more ≡ parts ++ b ∷ [] → carried_trees more ≡ carried_trees parts ++ hub_carried_tree b ∷ []
+pushed parts more b e = ap carried_trees e ∙ map-append hub_carried_tree parts (b ∷ [])
 
 module _ {L : Type 0} (lens : OfLens.Ghosts L) (ls : List L) where
   abbrev Steps : HubTree → Edits → List CarriedTree → List CarriedTree → HubTree → Type 0
@@ -129,13 +129,13 @@ module _ {L : Type 0} (lens : OfLens.Ghosts L) (ls : List L) where
   -- ---- the loop over edits
 
   pub edit_over : (es : List (HubSide × Word)) (i : ℕ) (e : HubSide × Word) (h g k : HubTree) (a : List CarriedTree) (parts more : List HubCarried) (b : HubCarried) → i < length es → e ≡ get_or es i e
-      → Steps h (edit_trees (take i es)) a (carried_trees parts) g → UndoesEdit lens ls g (edit_tree e) k (Some (carried_tree b)) → more ≡ parts ++ b ∷ []
+      → Steps h (edit_trees (take i es)) a (carried_trees parts) g → UndoesEdit lens ls g (edit_tree e) k (Some (hub_carried_tree b)) → more ≡ parts ++ b ∷ []
       → Steps h (edit_trees (take (i + 1) es)) a (carried_trees more) k
   edit_over es i e h g k a parts more b within is s n made =
       stepping_then h g k (edit_trees (take i es)) (edit_tree e ∷ []) (edit_trees (take (i + 1) es)) a (carried_trees parts) (carried_trees more) (edits_more es i e within is) s
-      (carried_tree b ∷ [], pushed parts more b made, over_one lens ls g (edit_tree e) k (carried_tree b) n)
+      (hub_carried_tree b ∷ [], pushed parts more b made, over_one lens ls g (edit_tree e) k (hub_carried_tree b) n)
 
-  pub edit_fails : (es : List (HubSide × Word)) (i : ℕ) (e : HubSide × Word) (h g : HubTree) (a b : List CarriedTree) (why : Refusal) → i < length es → e ≡ get_or es i e
+  pub edit_fails : (es : List (HubSide × Word)) (i : ℕ) (e : HubSide × Word) (h g : HubTree) (a b : List CarriedTree) (why : ViewRefusal) → i < length es → e ≡ get_or es i e
       → Steps h (edit_trees (take i es)) a b g → step lens ls g (edit_tree e) ≡ Some (Err why) → Fails lens ls h (edit_trees es)
   edit_fails es i e h g a b why within is s n =
       fails_then h g (edit_trees (take i es)) (edit_tree e ∷ []) (edit_trees (drop (i + 1) es)) (edit_trees (take (i + 1) es)) (edit_trees es) a b

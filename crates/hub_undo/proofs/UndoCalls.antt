@@ -13,10 +13,10 @@ use Rattle.store_run.proofs.Moments.{leaves_more}
 use Rattle.store_run.proofs.Openings.{opening_then}
 use Rattle.store_run.specs.MoreCall.{Exits, IsImage, IsSafeMore, MoreEnds}
 use Rattle.store_run.proofs.MoreCalls as more
-use Rattle.hub_undo.specs.HubUndoing.{HubUndoing, TakesBack, snapshot_text, undo_text}
+use Rattle.hub_undo.specs.HubUndoing.{HubUndoing, HubTakesBack, hub_undo_snapshot_text, hub_undo_text}
 use Rattle.hub_undo.specs.UndoCall.{IsUndoImage, IsSafeUndo, UndoEnds, UndoesCall}
 
-image_of : (held : List (List ℕ)) (u : HubUndoing) (c : List ℕ) → TakesBack held u → IsImage held (snapshot_text u) c → IsUndoImage held u c
+image_of : (held : List (List ℕ)) (u : HubUndoing) (c : List ℕ) → HubTakesBack held u → IsImage held (hub_undo_snapshot_text u) c → IsUndoImage held u c
 image_of held u c back (inl h) = inl h
 image_of held u c back (inr h) = inr (h, back)
 
@@ -25,18 +25,18 @@ module _ {K D : Type 0} (sink : OfSink.Ghosts K) (disk : OfDisk.Ghosts D)
     (read_holds : (l : LogState) (d : D) (base : List (List ℕ)) → StandsOn disk d l base → IfSome (disk.content d) (HoldsPayloads base))
     (k k' : K) (d d' : D) (held : List (List ℕ)) (u : HubUndoing) where
   -- the end of a call that stores one record
-  more_ends : (status : Status) → UndoEnds sink disk (k, d) (k', d') held u status → MoreEnds sink disk (k, d) (k', d') held (snapshot_text u) (undo_text u) status
+  more_ends : (status : Status) → UndoEnds sink disk (k, d) (k', d') held u status → MoreEnds sink disk (k, d) (k', d') held (hub_undo_snapshot_text u) (hub_undo_text u) status
   more_ends status (inl e) = inl e.0
   more_ends status (inr e) = inr e
 
   -- after Done the snapshot is stored and the lines were written
   pub undoes_call : (status : Status) → status ≡ ending.Done → UndoEnds sink disk (k, d) (k', d') held u status → UndoesCall sink disk (k, d) (k', d') held u
   undoes_call status is (inl e) =
-      record { stores = more.stores_one sink disk images_hold read_holds k k' d d' held (snapshot_text u) (undo_text u) status is (inl e.0); takes_back = e.1 }
+      record { stores = more.stores_one sink disk images_hold read_holds k k' d d' held (hub_undo_snapshot_text u) (hub_undo_text u) status is (inl e.0); takes_back = e.1 }
   undoes_call status is (inr e) = elim e.fails.0.0 [ inl f ↦ cc | inr f ↦ cc ]
 
-  pub exits_of : (status : Status) → UndoEnds sink disk (k, d) (k', d') held u status → Exits sink disk (k, d) (k', d') held (snapshot_text u) (undo_text u) status
-  exits_of status ends = more.exits_of sink disk images_hold read_holds k k' d d' held (snapshot_text u) (undo_text u) status (more_ends status ends)
+  pub exits_of : (status : Status) → UndoEnds sink disk (k, d) (k', d') held u status → Exits sink disk (k, d) (k', d') held (hub_undo_snapshot_text u) (hub_undo_text u) status
+  exits_of status ends = more.exits_of sink disk images_hold read_holds k k' d d' held (hub_undo_snapshot_text u) (hub_undo_text u) status (more_ends status ends)
 
   -- ---- images
 
@@ -47,17 +47,17 @@ module _ {K D : Type 0} (sink : OfSink.Ghosts K) (disk : OfDisk.Ghosts D)
     moments = leaves_more disk d d' (disk.images d) (λ c. disk.images d c ⊎ IsUndoImage held u c) (λ c p. inl p) moments;
   }
 
-  taken_back : TakesBack held u → IsSafeMore disk d d' held (snapshot_text u) → IsSafeUndo disk d d' held u
+  taken_back : HubTakesBack held u → IsSafeMore disk d d' held (hub_undo_snapshot_text u) → IsSafeUndo disk d d' held u
   taken_back back safe = record {
     now = λ c is. image_of held u c back (safe.now c is);
-    moments = leaves_more disk d d' (λ c. disk.images d c ⊎ IsImage held (snapshot_text u) c) (λ c. disk.images d c ⊎ IsUndoImage held u c) either safe.moments;
+    moments = leaves_more disk d d' (λ c. disk.images d c ⊎ IsImage held (hub_undo_snapshot_text u) c) (λ c. disk.images d c ⊎ IsUndoImage held u c) either safe.moments;
   } where
-    either : (c : List ℕ) → disk.images d c ⊎ IsImage held (snapshot_text u) c → disk.images d c ⊎ IsUndoImage held u c
+    either : (c : List ℕ) → disk.images d c ⊎ IsImage held (hub_undo_snapshot_text u) c → disk.images d c ⊎ IsUndoImage held u c
     either c (inl p) = inl p
     either c (inr p) = inr (image_of held u c back p)
 
   pub safe_of_ends : (status : Status) → UndoEnds sink disk (k, d) (k', d') held u status → IsSafeUndo disk d d' held u
-  safe_of_ends status (inl e) = taken_back e.1 (more.safe_of_ends sink disk images_hold read_holds k k' d d' held (snapshot_text u) (undo_text u) status (inl e.0))
+  safe_of_ends status (inl e) = taken_back e.1 (more.safe_of_ends sink disk images_hold read_holds k k' d d' held (hub_undo_snapshot_text u) (hub_undo_text u) status (inl e.0))
   safe_of_ends status (inr e) = safe_kept e.holds e.opens.moments
 
   -- behind calls of the disk that only read

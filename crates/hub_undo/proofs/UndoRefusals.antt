@@ -9,8 +9,9 @@ use Rattle.store_run.specs.Refusals.{Refuses, EndsRefused}
 use Rattle.store_run.specs.declared.refusals.StoreRefusal.{StoreRefusal}
 use Rattle.command_ends.specs.declared.status.Status.{Status}
 use Rattle.hub_records.specs.HubChanges.{HubChangeTree}
-use Rattle.hub_records.specs.HubStands.{HubStanding, stands_for}
-use Rattle.hub_undo.specs.HubUndoing.{HubUndoing, undoing_from, undoing_of, undoing, last_changes, payloads_before, refusal_of, undo_refusal}
+use Rattle.hub_records.specs.HubStands.{HubStanding, stands_as_hub}
+use Rattle.hub_undo.specs.HubUndoing.{HubUndoing, hub_undoing_from, hub_undoing_of, hub_undoing, last_hub_changes, hub_refusal_of, hub_undo_refusal}
+use Rattle.store_undo.specs.Undoing.{payloads_before}
 
 module _ {K D : Type 0} (sink : OfSink.Ghosts K) (disk : OfDisk.Ghosts D) (k k' : K) (d d' : D) (status : Status) where
   -- the line of a refusal that is the one that there is
@@ -21,16 +22,16 @@ module _ {K D : Type 0} (sink : OfSink.Ghosts K) (disk : OfDisk.Ghosts D) (k k' 
 
 -- ---- what undoing comes to is no refusal
 
-some_changes : (now : HubStanding) (r : Result HubStanding RecordFault) (o : Option (List HubChangeTree)) (u : HubUndoing) → option_and_then (λ (cs : List HubChangeTree). undoing_from now cs r) o ≡ Some u → refusal_of (Ok now) o ≡ None
+some_changes : (now : HubStanding) (r : Result HubStanding RecordFault) (o : Option (List HubChangeTree)) (u : HubUndoing) → option_and_then (λ (cs : List HubChangeTree). hub_undoing_from now cs r) o ≡ Some u → hub_refusal_of (Ok now) o ≡ None
 some_changes now r (Some cs) u h = refl
 some_changes now r None u h = cc
 
-some_standing : (count : ℕ) (held : List (List ℕ)) (r : Result HubStanding RecordFault) (u : HubUndoing) → undoing_of count held r ≡ Some u → refusal_of r (last_changes count held) ≡ None
-some_standing count held (Ok now) u h = some_changes now (stands_for (payloads_before count held)) (last_changes count held) u h
+some_standing : (count : ℕ) (held : List (List ℕ)) (r : Result HubStanding RecordFault) (u : HubUndoing) → hub_undoing_of count held r ≡ Some u → hub_refusal_of r (last_hub_changes count held) ≡ None
+some_standing count held (Ok now) u h = some_changes now (stands_as_hub (payloads_before count held)) (last_hub_changes count held) u h
 some_standing count held (Err fault) u h = cc
 
-pub never_refused : (count : ℕ) (held : List (List ℕ)) (u : HubUndoing) (refusal : StoreRefusal) → undoing count held ≡ Some u → undo_refusal count held ≡ Some refusal → ⊥
-never_refused count held u refusal h q = let never : None ≡ Some refusal = sym (some_standing count held (stands_for held) u h) ∙ q in cc
+pub never_refused : (count : ℕ) (held : List (List ℕ)) (u : HubUndoing) (refusal : StoreRefusal) → hub_undoing count held ≡ Some u → hub_undo_refusal count held ≡ Some refusal → ⊥
+never_refused count held u refusal h q = let never : None ≡ Some refusal = sym (some_standing count held (stands_as_hub held) u h) ∙ q in cc
 
 pub same_undoing : (o : Option HubUndoing) (u v : HubUndoing) → o ≡ Some u → o ≡ Some v → u ≡ v
 same_undoing o u v e f = same_Some u v (sym e ∙ f)

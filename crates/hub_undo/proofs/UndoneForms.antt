@@ -7,13 +7,13 @@ use Rattle.edit_module.specs.Words.{WordTree}
 use Rattle.lens_flat.specs.declared.flat.ReadyForm.{ReadyForm}
 use Rattle.lens_forms.specs.Forms.{FormTree, form_tree, left_type, right_type}
 use Rattle.store_records.specs.declared.record_fault.RecordFault.{RecordFault}
-use Rattle.view_hub.specs.Hubs.{ViewTree, HubTree, Place, CarriedTree, Refusal, step}
+use Rattle.view_hub.specs.Hubs.{ViewTree, HubTree, Place, CarriedTree, ViewRefusal, step}
 use Rattle.view_hub.specs.Laws.{AllInStep, IsHub}
 use Rattle.hub_run.specs.FormLenses.{form_lens}
 use Rattle.hub_run.specs.RunStates.{forms_of_lenses, ready_lens}
 use Rattle.hub_run.proofs.MappedLenses.{steps_are}
 use Rattle.hub_records.specs.HubStands.{HubStanding}
-use Rattle.hub_undo.specs.HubUndone.{BringsBack, BringHubBack, BringViewsBack, joined_carried, no_words, undone, undone_behind, undone_first, undone_step, undone_views}
+use Rattle.hub_undo.specs.HubUndone.{BringsBack, BringHubBack, BringViewsBack, joined_carried, no_hub_words, undone, undone_behind, undone_first, undone_step, undone_views}
 use Rattle.doc_values.specs.Documents.{DocTree}
 use Rattle.doc_values.specs.Types.{TyTree}
 
@@ -38,7 +38,7 @@ module _ (ls : List ReadyForm) where
   abbrev forms : List FormTree
   forms = forms_of_lenses ls
 
-  first_is : (h : HubTree) (words : CarriedTree) (es : List (Place × WordTree)) (o : Option (Result (HubTree × CarriedTree) Refusal))
+  first_is : (h : HubTree) (words : CarriedTree) (es : List (Place × WordTree)) (o : Option (Result (HubTree × CarriedTree) ViewRefusal))
       → ((more : CarriedTree) (next : HubTree) → undone_behind ready_lens ls more next es ≡ undone_behind form_lens forms more next es)
       → option_and_then (undone_first ready_lens (λ c. joined_carried (undone_step ready_lens ls h c) words) (λ more next. undone_behind ready_lens ls more next es)) o
       ≡ option_and_then (undone_first form_lens (λ c. joined_carried (undone_step form_lens forms h c) words) (λ more next. undone_behind form_lens forms more next es)) o
@@ -55,7 +55,7 @@ module _ (ls : List ReadyForm) where
       (steps_are form_of form_lens ls h e)
 
   pub undone_is : (h : HubTree) (es : List (Place × WordTree)) → undone ready_lens ls h es ≡ undone form_lens forms h es
-  undone_is h es = behind_is (no_words (length ls)) h es ∙ ap (λ n. undone_behind form_lens forms (no_words n) h es) (sym (length-map ls form_of))
+  undone_is h es = behind_is (no_hub_words (length ls)) h es ∙ ap (λ n. undone_behind form_lens forms (no_hub_words n) h es) (sym (length-map ls form_of))
 
 -- ---- taking back
 

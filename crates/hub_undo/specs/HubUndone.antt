@@ -7,7 +7,7 @@ use Rattle.edit_inverse.specs.Inverse.{inverse}
 use Rattle.edit_module.specs.Action.{act}
 use Rattle.edit_module.specs.Words.{WordTree, no_primitives, joined}
 use Rattle.lens_core.specs.declared.lens.EditLens as OfLens
-use Rattle.view_hub.specs.Hubs.{ViewTree, HubTree, Place, CarriedTree, Refusal, step}
+use Rattle.view_hub.specs.Hubs.{ViewTree, HubTree, Place, CarriedTree, ViewRefusal, step}
 
 -- ---- words of all documents
 
@@ -16,8 +16,8 @@ abbrev pub no_view_words : ℕ → List WordTree
 no_view_words zero = []
 no_view_words (suc n) = no_primitives ∷ no_view_words n
 
-abbrev pub no_words : ℕ → CarriedTree
-no_words n = record { hub = no_primitives; views = no_view_words n }
+abbrev pub no_hub_words : ℕ → CarriedTree
+no_hub_words n = record { hub = no_primitives; views = no_view_words n }
 
 -- at each view the first word and then the second
 abbrev pub joined_views : List WordTree → List WordTree → List WordTree
@@ -39,7 +39,7 @@ module _ {L : Type 0} (lens : OfLens.Ghosts L) where
 
   -- The inverses of the words that acted on a hub. The hub's document has the left type of the first lens.
   abbrev pub undone_step : List L → HubTree → CarriedTree → CarriedTree
-  undone_step [] h c = no_words 0
+  undone_step [] h c = no_hub_words 0
   undone_step (l ∷ ls) h c = record {
     hub = inverse (lens.left_type l) c.hub h.hub;
     views = undone_views (l ∷ ls) h.views c.views;
@@ -49,7 +49,7 @@ module _ {L : Type 0} (lens : OfLens.Ghosts L) where
 
   -- the edit was accepted, and the others go on from its hub, with the words that take it back in front of the others
   abbrev pub undone_first : (CarriedTree → CarriedTree) → (CarriedTree → HubTree → Option (HubTree × CarriedTree))
-      → Result (HubTree × CarriedTree) Refusal → Option (HubTree × CarriedTree)
+      → Result (HubTree × CarriedTree) ViewRefusal → Option (HubTree × CarriedTree)
   undone_first back others (Ok s) = others (back s.1) s.0
   undone_first back others (Err why) = None
 
@@ -65,7 +65,7 @@ module _ {L : Type 0} (lens : OfLens.Ghosts L) where
   -- to those of the first hub. Each word joins, from the last edit to the first, the inverses of the words that acted
   -- on its document. There are none if an edit is refused.
   abbrev pub undone : List L → HubTree → List (Place × WordTree) → Option (HubTree × CarriedTree)
-  undone ls h es = undone_behind ls (no_words (length ls)) h es
+  undone ls h es = undone_behind ls (no_hub_words (length ls)) h es
 
   -- ---- what the words do
 

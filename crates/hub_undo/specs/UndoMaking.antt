@@ -11,13 +11,14 @@ use Rattle.hub_run.specs.FormLenses.{form_lens}
 use Rattle.hub_run.specs.Runs.{hub_state_lines}
 use Rattle.hub_records.specs.HubChanges.{HubChangeTree}
 use Rattle.hub_records.specs.HubRecords.{tree_of_hub_snapshot}
-use Rattle.hub_records.specs.HubStands.{HubStanding, stands_for}
+use Rattle.hub_records.specs.HubStands.{HubStanding, stands_as_hub}
 use Rattle.hub_records.specs.Views.{hub_change_tree, hub_standing}
 use Rattle.hub_records.specs.WholeInts.{hub_holds_i64s}
 use Rattle.hub_records.specs.declared.change.HubChange.{HubChange}
 use Rattle.store_run.specs.declared.storing.MoreText.{MoreText}
 use Rattle.hub_undo.specs.HubUndone.{BringsBack, undone}
-use Rattle.hub_undo.specs.HubUndoing.{HubUndoing, TakesBack, edits_of_all, snapshot_text, undo_text, undoing}
+use Rattle.hub_undo.specs.HubUndoing.{HubUndoing, HubTakesBack, edits_of_all, hub_undo_snapshot_text, hub_undo_text}
+use Rattle.hub_undo.specs.HubUndoing.{hub_undoing}
 use Rattle.hub_undo.specs.HubUndoing.{words_text}
 use Rattle.hub_undo.specs.declared.making.OpenedTwice.{OpenedTwice}
 
@@ -27,9 +28,9 @@ change_trees cs = map hub_change_tree cs
 
 -- What was opened is the hub that the payloads represent, and the parts that those before the last ones represent.
 pub record StoodTwice (count : ℕ) (held : List (List ℕ)) (twice : OpenedTwice) : Type 0 where
-  pub now : stands_for held ≡ Ok (hub_standing twice.opened.hub twice.opened.count)
+  pub now : stands_as_hub held ≡ Ok (hub_standing twice.opened.hub twice.opened.count)
   pub was : HubStanding
-  pub before : stands_for (take (kept_before count (length held)) held) ≡ Ok was
+  pub before : stands_as_hub (take (kept_before count (length held)) held) ≡ Ok was
   pub hub : was.hub ≡ hub_tree twice.earlier
 
 -- the hub after these changes of a hub, and the words that take them back
@@ -49,7 +50,7 @@ pub record AreTexts (forms : List FormTree) (h : HubTree) (r : HubTree × Carrie
 -- what is made is what undoing the last changes of these payloads stores and writes
 pub record IsMade (count : ℕ) (held : List (List ℕ)) (made : MoreText) : Type 0 where
   pub u : HubUndoing
-  pub is : undoing count held ≡ Some u
-  pub snapshot : made.payload ≡ snapshot_text u
-  pub lines : made.lines ≡ undo_text u
-  pub takes_back : TakesBack held u
+  pub is : hub_undoing count held ≡ Some u
+  pub snapshot : made.payload ≡ hub_undo_snapshot_text u
+  pub lines : made.lines ≡ hub_undo_text u
+  pub takes_back : HubTakesBack held u

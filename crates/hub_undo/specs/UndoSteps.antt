@@ -3,12 +3,12 @@
 use Rattle.std.specs.Prelude.{◌≡◌, ℕ, Bool, true, false, List, [], ◌∷◌, ◌++◌, length, Option, Some, None, Ok, Err}
 use Rattle.edit_module.specs.Words.{WordTree}
 use Rattle.lens_core.specs.declared.lens.EditLens as OfLens
-use Rattle.view_hub.specs.Hubs.{HubTree, Place, CarriedTree, Refusal, step}
-use Rattle.hub_undo.specs.HubUndone.{BringsBack, joined_carried, no_words, undone_behind, undone_step}
+use Rattle.view_hub.specs.Hubs.{HubTree, Place, CarriedTree, ViewRefusal, step}
+use Rattle.hub_undo.specs.HubUndone.{BringsBack, joined_carried, no_hub_words, undone_behind, undone_step}
 
 -- at each document the last of the words, then the one before it, down to the first
 abbrev pub joined_all : ℕ → List CarriedTree → CarriedTree
-joined_all n [] = no_words n
+joined_all n [] = no_hub_words n
 joined_all n (c ∷ cs) = joined_carried (joined_all n cs) c
 
 -- the same in front of the words of what came before
@@ -28,7 +28,7 @@ module _ {L : Type 0} (lens : OfLens.Ghosts L) where
   UndoesEdit ls h e g (Some words) =
       (c : CarriedTree) × (step lens ls h e ≡ Some (Ok (g, c)))
       × (words ≡ undone_step lens ls h c) × BringsBack lens ls words g h
-  UndoesEdit ls h e g None = (why : Refusal) × (step lens ls h e ≡ Some (Err why))
+  UndoesEdit ls h e g None = (why : ViewRefusal) × (step lens ls h e ≡ Some (Err why))
 
   -- These edits go from the one hub to the other, whatever edits follow and whatever words are behind theirs.
   pub record StepsOver (ls : List L) (h : HubTree) (es : List (Place × WordTree)) (words : List CarriedTree)

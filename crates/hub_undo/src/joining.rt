@@ -3,8 +3,8 @@
 ghost use Rattle.std.specs.Prelude.{◌≡◌, IfOk, length};
 ghost use Rattle.edit_module.specs.Views.{word_tree, word_trees};
 ghost use Rattle.edit_module.specs.Words.{joined};
-ghost use Rattle.view_hub.specs.Views.{carried_tree};
-ghost use Rattle.hub_undo.specs.HubUndone.{joined_carried, joined_views, no_view_words, no_words};
+ghost use Rattle.view_hub.specs.Views.{hub_carried_tree};
+ghost use Rattle.hub_undo.specs.HubUndone.{joined_carried, joined_views, no_view_words, no_hub_words};
 ghost use Rattle.hub_undo.specs.UndoSteps.{HasViews, joined_all};
 ghost use Rattle.hub_undo.specs.UndoViews.{carried_trees};
 
@@ -20,7 +20,7 @@ pub(crate) fn join_all(
     parts: Vec<HubCarried>,
 ) -> Result<HubCarried, AllocError>
     requires views { HasViews views (carried_trees parts.items) }
-    ensures { IfOk result (λ words. carried_tree words ≡ joined_all views (carried_trees parts.items)) }
+    ensures { IfOk result (λ words. hub_carried_tree words ≡ joined_all views (carried_trees parts.items)) }
 {
     let mut parts = parts;
     let mut all = none_of(alloc, views)?;
@@ -33,7 +33,7 @@ pub(crate) fn join_all(
 
 // The words that do nothing, for a hub with so many views.
 fn none_of(alloc: Global, views: usize) -> Result<HubCarried, AllocError>
-    ensures { IfOk result (λ words. carried_tree words ≡ no_words views) }
+    ensures { IfOk result (λ words. hub_carried_tree words ≡ no_hub_words views) }
 {
     let hub = Word::from_vec(Vec::new(alloc));
     let views = no_view_words(alloc, views)?;
@@ -54,8 +54,8 @@ fn no_view_words(alloc: Global, views: usize) -> Result<Words, AllocError>
 // At each document the first word and then the second. The two have as many views.
 fn join(alloc: Global, first: HubCarried, second: HubCarried) -> Result<HubCarried, AllocError>
     requires views { length first.views ≡ length second.views }
-    ensures { IfOk result (λ words. carried_tree words
-        ≡ joined_carried (carried_tree first) (carried_tree second)) }
+    ensures { IfOk result (λ words. hub_carried_tree words
+        ≡ joined_carried (hub_carried_tree first) (hub_carried_tree second)) }
 {
     let hub = join_words(first.hub, second.hub)?;
     let views = join_views(alloc, first.views.into_vec(), second.views.into_vec())?;

@@ -2,13 +2,13 @@
 
 ghost use Rattle.std.specs.Prelude.{◌≡◌, IfOk, MatchResult, drop, option_map};
 ghost use Rattle.view_hub.specs.Hubs.{CarriedTree, HubTree};
-ghost use Rattle.view_hub.specs.Views.{carried_tree, hub_tree};
+ghost use Rattle.view_hub.specs.Views.{hub_carried_tree, hub_tree};
 ghost use Rattle.hub_run.specs.FormLenses.{form_lens};
 ghost use Rattle.hub_run.specs.RunStates.{forms_of_lenses};
-ghost use Rattle.hub_records.specs.HubStands.{stands_for};
+ghost use Rattle.hub_records.specs.HubStands.{stands_as_hub};
 ghost use Rattle.hub_records.specs.Outcomes.{IsStandFault};
 ghost use Rattle.hub_undo.specs.HubUndone.{BringsBack};
-ghost use Rattle.hub_undo.specs.HubUndoing.{changes_of, last_changes, undo_refusal};
+ghost use Rattle.hub_undo.specs.HubUndoing.{hub_changes_of, last_hub_changes, hub_undo_refusal};
 ghost use Rattle.hub_undo.specs.UndoMaking.{AreTexts, IsMade, StoodTwice, UndoneBy, change_trees};
 ghost use Rattle.store_undo.specs.Making.{IsMakingFault};
 
@@ -34,7 +34,7 @@ pub(crate) struct OpenedTwice {
 
 // What `undo` stores and writes over these payloads, or why they are refused.
 pub(crate) fn make(alloc: Global, count: u64, records: &[Bytes]) -> Result<MoreText, MakingFault>
-    ensures { MatchResult result (IsMade count records.now) (IsMakingFault (undo_refusal count records.now)) }
+    ensures { MatchResult result (IsMade count records.now) (IsMakingFault (hub_undo_refusal count records.now)) }
 {
     match open(alloc, count, records) {
         Ok(twice) => make_opened(alloc, count, records, twice),
@@ -45,7 +45,7 @@ pub(crate) fn make(alloc: Global, count: u64, records: &[Bytes]) -> Result<MoreT
 // The hub that payloads represent, with the parts that it had before the last `count` payloads. If there are not so
 // many behind the first one, the parts are those of all.
 fn open(alloc: Global, count: u64, records: &[Bytes]) -> Result<OpenedTwice, RecordFault>
-    ensures { MatchResult result (StoodTwice count records.now) (IsStandFault (stands_for records.now)) }
+    ensures { MatchResult result (StoodTwice count records.now) (IsStandFault (stands_as_hub records.now)) }
 {
     let kept = kept_before(count, records.len());
     let mut opened = reopen_first_hub(alloc, records, kept)?;
@@ -62,7 +62,7 @@ fn make_opened(
     twice: OpenedTwice,
 ) -> Result<MoreText, MakingFault>
     requires stood { StoodTwice count records.now twice }
-    ensures { MatchResult result (IsMade count records.now) (IsMakingFault (undo_refusal count records.now)) }
+    ensures { MatchResult result (IsMade count records.now) (IsMakingFault (hub_undo_refusal count records.now)) }
 {
     let Some(changes) = last_changes(alloc, records, count)? else {
         return Err(MakingFault::Refused(StoreRefusal::NothingToUndo));
@@ -81,7 +81,7 @@ fn last_changes(
     count: u64,
 ) -> Result<Option<Vec<HubChange>>, AllocError>
     ensures { IfOk result (λ changes. option_map (λ cs. change_trees cs.items) changes
-        ≡ last_changes count records.now) }
+        ≡ last_hub_changes count records.now) }
 {
     if count >= records.len() as u64 {
         return Ok(None);
@@ -96,7 +96,7 @@ fn changes_from(
     from: usize,
 ) -> Result<Option<Vec<HubChange>>, AllocError>
     ensures { IfOk result (λ changes. option_map (λ cs. change_trees cs.items) changes
-        ≡ changes_of (drop from records.now)) }
+        ≡ hub_changes_of (drop from records.now)) }
 {
     let mut changes = Vec::new(alloc);
     for at in from..records.len() {
@@ -136,7 +136,7 @@ fn words_of(
         × UndoneBy (forms_of_lenses hub.old.lenses) (hub_tree hub.old.parts) (change_trees changes.now) r }
     ensures words { IfOk result (λ words. (r : HubTree × CarriedTree)
         → UndoneBy (forms_of_lenses hub.old.lenses) (hub_tree hub.old.parts) (change_trees changes.now) r
-        → (carried_tree words ≡ r.1)
+        → (hub_carried_tree words ≡ r.1)
         × BringsBack form_lens (forms_of_lenses hub.old.lenses) r.1 r.0 (hub_tree hub.old.parts)) }
     ensures lenses { hub.new.lenses ≡ hub.old.lenses }
     ensures parts { IfOk result (λ _. hub_tree hub.new.parts ≡ hub_tree hub.old.parts) }

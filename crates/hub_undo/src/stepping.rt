@@ -10,7 +10,7 @@ ghost use Rattle.edit_module.specs.Action.{act};
 ghost use Rattle.edit_module.specs.Views.{word_tree, word_trees};
 ghost use Rattle.view_hub.specs.Acting.{ActsTo, ViewsActTo};
 ghost use Rattle.view_hub.specs.Hubs.{HubTree, ViewTree};
-ghost use Rattle.view_hub.specs.Views.{carried_tree, edit_tree, edit_trees, hub_tree, view_trees};
+ghost use Rattle.view_hub.specs.Views.{hub_carried_tree, edit_tree, edit_trees, hub_tree, view_trees};
 ghost use Rattle.hub_undo.specs.HubUndoing.{edits_of_all};
 ghost use Rattle.hub_undo.specs.UndoMaking.{change_trees};
 ghost use Rattle.hub_undo.specs.HubUndone.{BringsBack, BringViewsBack, undone, undone_step, undone_views};
@@ -42,11 +42,11 @@ pub fn undo_changes<L: EditLens>(
     changes: &[HubChange],
 ) -> Result<Option<HubCarried>, AllocError>
     ensures undone { IfOk result (λ words.
-        option_map (λ w. (hub_tree hub.new.parts, carried_tree w)) words
+        option_map (λ w. (hub_tree hub.new.parts, hub_carried_tree w)) words
         ≡ undone L.EditLens hub.old.lenses (hub_tree hub.old.parts)
         (edits_of_all (change_trees changes.now))) }
     ensures brings_back { IfOk result (λ words. IfSome words (λ w.
-        BringsBack L.EditLens hub.old.lenses (carried_tree w) (hub_tree hub.new.parts) (hub_tree hub.old.parts))) }
+        BringsBack L.EditLens hub.old.lenses (hub_carried_tree w) (hub_tree hub.new.parts) (hub_tree hub.old.parts))) }
     ensures lenses { hub.new.lenses ≡ hub.old.lenses }
 {
     // The proof needs that the hub is in step, which this call says.
@@ -107,7 +107,7 @@ fn undo_edit<L: EditLens>(
     edit: &(HubSide, Word),
 ) -> Result<Option<HubCarried>, AllocError>
     ensures words { IfOk result (λ words. UndoesEdit L.EditLens hub.old.lenses (hub_tree hub.old.parts)
-        (edit_tree edit.now) (hub_tree hub.new.parts) (option_map carried_tree words)) }
+        (edit_tree edit.now) (hub_tree hub.new.parts) (option_map hub_carried_tree words)) }
     ensures lenses { hub.new.lenses ≡ hub.old.lenses }
 {
     let before = copy_parts(alloc, hub.parts())?;
@@ -131,12 +131,12 @@ fn words_back<L: EditLens>(
 ) -> Result<HubCarried, AllocError>
     requires some { 0 < length lenses.now }
     requires acted { (after : HubTree)
-        × ActsTo L.EditLens lenses.now (hub_tree parts.now) (carried_tree carried.now) after }
-    ensures is { IfOk result (λ words. carried_tree words
-        ≡ undone_step L.EditLens lenses.now (hub_tree parts.now) (carried_tree carried.now)) }
+        × ActsTo L.EditLens lenses.now (hub_tree parts.now) (hub_carried_tree carried.now) after }
+    ensures is { IfOk result (λ words. hub_carried_tree words
+        ≡ undone_step L.EditLens lenses.now (hub_tree parts.now) (hub_carried_tree carried.now)) }
     ensures back { IfOk result (λ words. (after : HubTree)
-        → ActsTo L.EditLens lenses.now (hub_tree parts.now) (carried_tree carried.now) after
-        → BringsBack L.EditLens lenses.now (carried_tree words) after (hub_tree parts.now)) }
+        → ActsTo L.EditLens lenses.now (hub_tree parts.now) (hub_carried_tree carried.now) after
+        → BringsBack L.EditLens lenses.now (hub_carried_tree words) after (hub_tree parts.now)) }
 {
     let hub = word_back(alloc, lenses[0].ty(Side::Left), &carried.hub, &parts.hub)?;
     let views = views_back(alloc, lenses, &parts.views, carried.views.as_slice())?;

@@ -1,6 +1,6 @@
 //! The command `undo` of a hub, from its first call of the disk on.
 ghost use Rattle.std.specs.Prelude.{◌≡◌, ◌⊎◌, List, ℕ, Some};
-ghost use Rattle.command_ends.specs.Statuses.{IsAmong, quiet_statuses};
+ghost use Rattle.command_ends.specs.Statuses.{IsStatusAmong, quiet_statuses};
 ghost use Rattle.lens_io.specs.Calls.{SinkFailed, DiskFailed};
 ghost use Rattle.store_run.specs.Effects.{StandsOn};
 ghost use Rattle.store_run.specs.Refusals.{IsUnwritten, EndsRefused};
@@ -8,7 +8,8 @@ ghost use Rattle.store_run.specs.Rooms.{most_bytes};
 ghost use Rattle.store_run.specs.declared.refusals.StoreRefusal.{StoreRefusal};
 ghost use Rattle.store_run.specs.MoreCall.{Exits, IsUntouched};
 ghost use Rattle.store_run.specs.MoreCauses.{IsMoreCause, OneHasNoRoom};
-ghost use Rattle.hub_undo.specs.HubUndoing.{HubUndoing, snapshot_text, undo_refusal, undo_text, undoing};
+ghost use Rattle.hub_undo.specs.HubUndoing.{HubUndoing, hub_undo_snapshot_text, hub_undo_refusal, hub_undo_text};
+ghost use Rattle.hub_undo.specs.HubUndoing.{hub_undoing};
 ghost use Rattle.hub_undo.specs.UndoCall.{HubToUndo, IsSafeUndo, RefusedToUndo, UndoEnds, UndoesCall};
 
 use crate::making::make;
@@ -48,18 +49,18 @@ pub fn undo_hub<K: Sink, D: Disk>(alloc: Global, count: u64, sink: &mut K, disk:
         ⊎ IsSafeUndo D.Disk disk.old disk.new store.payloads store.undone }
     ensures exits { (store : HubToUndo D.Disk count disk.old)
         → Exits K.Sink D.Disk (sink.old, disk.old) (sink.new, disk.new) store.payloads
-        (snapshot_text store.undone) (undo_text store.undone) result }
+        (hub_undo_snapshot_text store.undone) (hub_undo_text store.undone) result }
     ensures causes { (store : HubToUndo D.Disk count disk.old)
-        → IsMoreCause D.Disk disk.old store.payloads (snapshot_text store.undone) result }
+        → IsMoreCause D.Disk disk.old store.payloads (hub_undo_snapshot_text store.undone) result }
     ensures complete { (store : HubToUndo D.Disk count disk.old)
         → (SinkFailed K.Sink sink.old sink.new → ⊥)
         → (DiskFailed D.Disk disk.old disk.new → ⊥)
-        → (OneHasNoRoom most_bytes store.payloads (snapshot_text store.undone) → ⊥)
+        → (OneHasNoRoom most_bytes store.payloads (hub_undo_snapshot_text store.undone) → ⊥)
         → (result ≡ Status.Done) ⊎ (result ≡ Status.NoMemory) }
     ensures refused { (other : RefusedToUndo D.Disk count disk.old)
         → IsUnwritten D.Disk disk.old disk.new
         × EndsRefused K.Sink D.Disk (sink.old, disk.old) (sink.new, disk.new) other.reason result }
-    ensures statuses { IsAmong quiet_statuses result }
+    ensures statuses { IsStatusAmong quiet_statuses result }
     ensures sink_fault { result ≡ Status.SinkFault → SinkFailed K.Sink sink.old sink.new }
     ensures disk_fault { result ≡ Status.DiskFault → DiskFailed D.Disk disk.old disk.new }
 {
@@ -83,12 +84,12 @@ fn undo_payloads<K: Sink, D: Disk>(
 ) -> Status
     requires stands { (base : List (List ℕ)) × StandsOn D.Disk disk.old log.old base }
     ensures ends { (u : HubUndoing) → StandsOn D.Disk disk.old log.old payloads.now
-        → undoing count payloads.now ≡ Some u
+        → hub_undoing count payloads.now ≡ Some u
         → UndoEnds K.Sink D.Disk (sink.old, disk.old) (sink.new, disk.new) payloads.now u result }
-    ensures refused { (refusal : StoreRefusal) → undo_refusal count payloads.now ≡ Some refusal
+    ensures refused { (refusal : StoreRefusal) → hub_undo_refusal count payloads.now ≡ Some refusal
         → IsUnwritten D.Disk disk.old disk.new
         × EndsRefused K.Sink D.Disk (sink.old, disk.old) (sink.new, disk.new) refusal result }
-    ensures statuses { IsAmong quiet_statuses result }
+    ensures statuses { IsStatusAmong quiet_statuses result }
     ensures sink_fault { result ≡ Status.SinkFault → SinkFailed K.Sink sink.old sink.new }
     ensures disk_fault { result ≡ Status.DiskFault → DiskFailed D.Disk disk.old disk.new }
 {

@@ -4,9 +4,9 @@ ghost use Rattle.std.specs.Prelude.{◌≡◌, ◌++◌, IfOk, codes, decimal};
 ghost use Rattle.answer_text.specs.Lines.{tree_line};
 ghost use Rattle.edit_json.specs.WordJson.{tree_of_word};
 ghost use Rattle.edit_module.specs.Views.{word_tree, word_trees};
-ghost use Rattle.view_hub.specs.Views.{carried_tree};
-ghost use Rattle.hub_run.specs.RunStates.{state_of};
-ghost use Rattle.hub_run.specs.Runs.{state_text};
+ghost use Rattle.view_hub.specs.Views.{hub_carried_tree};
+ghost use Rattle.hub_run.specs.RunStates.{hub_state_of};
+ghost use Rattle.hub_run.specs.Runs.{hub_state_text};
 ghost use Rattle.hub_undo.specs.HubUndoing.{view_undo_lines, words_text};
 
 use edit_module::Word;
@@ -24,7 +24,7 @@ pub(crate) fn undo_lines(
     words: &HubCarried,
 ) -> Result<Bytes, AllocError>
     ensures { IfOk result (λ lines. lines
-        ≡ words_text (carried_tree words.now) ++ state_text (state_of hub.now)) }
+        ≡ words_text (hub_carried_tree words.now) ++ hub_state_text (hub_state_of hub.now)) }
 {
     let first = with_word(Vec::new(alloc), b"undo hub ", &words.hub)?;
     let mut text = with_views(alloc, first, words.views.as_slice())?;

@@ -14,7 +14,7 @@ use Rattle.hub_run.specs.AnswerLines.{HasAnswerLine}
 use Rattle.hub_run.specs.Answers.{HubAnswerTree, hub_answer_line}
 use Rattle.hub_run.specs.EditJson.{edit_of_line}
 use Rattle.hub_run.specs.FormLenses.{form_lens}
-use Rattle.hub_run.specs.RunStates.{forms_of_lenses, ready_lens, state_of, IsHubOf}
+use Rattle.hub_run.specs.RunStates.{forms_of_lenses, ready_lens, hub_state_of, IsHubOf}
 use Rattle.hub_run.specs.Runs.{HubState, take_hub_item}
 use Rattle.hub_run.specs.Views.{answer_tree, step_with}
 use Rattle.hub_run.specs.declared.answers.HubAnswer.{HubAnswer}
@@ -61,7 +61,7 @@ copy_in_step old new parts given copy all is same lenses =
 abbrev state_with : List ReadyForm → HubTree → HubState
 state_with ls h = record { forms = forms_of_lenses ls; hub = h }
 
-pub same_state : (old new : HubOf ReadyForm) → new.lenses ≡ old.lenses → hub_tree new.parts ≡ hub_tree old.parts → state_of new ≡ state_of old
+pub same_state : (old new : HubOf ReadyForm) → new.lenses ≡ old.lenses → hub_tree new.parts ≡ hub_tree old.parts → hub_state_of new ≡ hub_state_of old
 same_state old new lenses parts = ap₂ state_with lenses parts
 
 -- ---- an answer

@@ -1,6 +1,6 @@
 -- The lines that a hub is given are answered as the command `hub` answers them.
 use Rattle.std.proofs.Common.{◌≡◌, ℕ, ◌+◌, List, [], ◌∷◌, ◌++◌, Bool, true, false, cond, map, Some, option_map, option_and_then, refl, sym, ap, ap₂, subst, ◌∙◌, inl, inr}
-use Rattle.command_ends.specs.Statuses.{IsFinished, end_of}
+use Rattle.command_ends.specs.Statuses.{IsFinished, status_at_end}
 use Rattle.edit_journal.specs.Lines.{line_of, is_blank}
 use Rattle.edit_journal.specs.Pieces.{has_no_end}
 use Rattle.edit_journal.specs.declared.line.Line.{Line}
@@ -11,10 +11,10 @@ use Rattle.script_run.specs.declared.line_answers.Answer.{Answer}
 use Rattle.lens_forms.specs.Forms.{FormTree}
 use Rattle.view_hub.specs.Hubs.{HubTree}
 use Rattle.view_hub.specs.Views.{hub_tree}
-use Rattle.hub_run.specs.Answers.{hub_answer_line, is_refused}
+use Rattle.hub_run.specs.Answers.{hub_answer_line, is_refused_by_hub}
 use Rattle.hub_run.specs.HubScript.{hub_script}
-use Rattle.hub_run.specs.RunStates.{forms_of_lenses, state_of}
-use Rattle.hub_run.specs.Runs.{HubState, answered, answer, first_state, state_text}
+use Rattle.hub_run.specs.RunStates.{forms_of_lenses, hub_state_of}
+use Rattle.hub_run.specs.Runs.{HubState, hub_answered, hub_answer, first_state, hub_state_text}
 use Rattle.kept_hubs.specs.Journals.{is_taken, IsGiven, IsReported}
 use Rattle.kept_hubs.specs.Kept.{IsStarted, IsOpened, IfOpen, takes_line, takes_bytes, IsStepped, IsShown, text_of}
 use Rattle.kept_hubs.specs.Parts.{IsShow}
@@ -29,7 +29,7 @@ use Rattle.kept_hubs.specs.declared.running.RunningHub.{RunningHub}
 -- the lines take the one state to the other, and these are their answer lines
 record Runs (t : HubState) (n : ℕ) (lines : List Line) (texts : List ℕ) (t' : HubState) : Type 0 where
   pub steps : List (HubState × Answer)
-  pub is_run : run answer t n lines ≡ Some steps
+  pub is_run : run hub_answer t n lines ≡ Some steps
   pub is_texts : texts ≡ answer_lines steps
   pub comes_to : t' ≡ last t steps
 
@@ -44,26 +44,26 @@ one_line true r m line end lines rest t' is s c =
     let t = hub_state r in
     record {
       steps = c.steps;
-      is_run = ap (λ b. cond b (run answer t r.number lines)
-          (option_and_then (λ (x : HubState × Answer). option_map (λ steps. x ∷ steps) (run answer x.0 (r.number + 1) lines)) (answer t (r.number + 1) line))) is
-          ∙ ap₂ (λ (t : HubState) n. run answer t n lines) (sym (ap state_of s.hub)) (sym s.number) ∙ c.is_run;
+      is_run = ap (λ b. cond b (run hub_answer t r.number lines)
+          (option_and_then (λ (x : HubState × Answer). option_map (λ steps. x ∷ steps) (run hub_answer x.0 (r.number + 1) lines)) (hub_answer t (r.number + 1) line))) is
+          ∙ ap₂ (λ (t : HubState) n. run hub_answer t n lines) (sym (ap hub_state_of s.hub)) (sym s.number) ∙ c.is_run;
       is_texts = ap (λ x. x ++ rest) s.text ∙ c.is_texts;
-      comes_to = c.comes_to ∙ ap (λ (t : HubState). last t c.steps) (ap state_of s.hub);
+      comes_to = c.comes_to ∙ ap (λ (t : HubState). last t c.steps) (ap hub_state_of s.hub);
     }
 one_line false r m line end lines rest t' is s c =
     let t = hub_state r in
     let a = s.answers in
-    let said : Answer = record { line = hub_answer_line m.number a.answer; refused = is_refused a.answer } in
+    let said : Answer = record { line = hub_answer_line m.number a.answer; refused = is_refused_by_hub a.answer } in
     let x : HubState × Answer = (hub_state m, said) in
-    let answer_is : answer t m.number line ≡ Some x =
-    ap (option_map (answered (forms_of r) m.number)) a.step
+    let answer_is : hub_answer t m.number line ≡ Some x =
+    ap (option_map (hub_answered (forms_of r) m.number)) a.step
     ∙ ap (λ (forms : List FormTree). Some (answered_with forms (hub_tree m.hub.parts) said)) (ap forms_of_lenses (sym a.lenses)) in
     record {
       steps = x ∷ c.steps;
-      is_run = ap (λ b. cond b (run answer t r.number lines)
-          (option_and_then (λ (x : HubState × Answer). option_map (λ steps. x ∷ steps) (run answer x.0 (r.number + 1) lines)) (answer t (r.number + 1) line))) is
-          ∙ ap (λ n. option_and_then (λ (x : HubState × Answer). option_map (λ steps. x ∷ steps) (run answer x.0 n lines)) (answer t n line)) (sym s.number)
-          ∙ ap (option_and_then (λ (x : HubState × Answer). option_map (λ steps. x ∷ steps) (run answer x.0 m.number lines))) answer_is
+      is_run = ap (λ b. cond b (run hub_answer t r.number lines)
+          (option_and_then (λ (x : HubState × Answer). option_map (λ steps. x ∷ steps) (run hub_answer x.0 (r.number + 1) lines)) (hub_answer t (r.number + 1) line))) is
+          ∙ ap (λ n. option_and_then (λ (x : HubState × Answer). option_map (λ steps. x ∷ steps) (run hub_answer x.0 n lines)) (hub_answer t n line)) (sym s.number)
+          ∙ ap (option_and_then (λ (x : HubState × Answer). option_map (λ steps. x ∷ steps) (run hub_answer x.0 m.number lines))) answer_is
           ∙ ap (option_map (λ steps. x ∷ steps)) c.is_run;
       is_texts = ap₂ (λ x y. x ++ y) a.is_text c.is_texts;
       comes_to = c.comes_to;
@@ -115,7 +115,7 @@ given_lines r (line ∷ lines) texts after g =
 
 -- ---- the report
 
-ends : (b : Bool) → IsFinished (end_of b)
+ends : (b : Bool) → IsFinished (status_at_end b)
 ends true = inr refl
 ends false = inl refl
 
@@ -124,18 +124,18 @@ module _ (script : List ℕ) (lines : List (List ℕ)) (texts : List ℕ) (behin
       → Runs (hub_state r) r.number (map line_of lines) texts (hub_state last_one) → IsShow last_one part.State shown → IsReported script (texts ++ shown.text.items)
   reported r last_one shown s c h =
       let first = first_state (forms_of r) in
-      let goes : run answer first 0 (map line_of lines) ≡ Some c.steps = ap₂ (λ (t : HubState) n. run answer t n (map line_of lines)) (sym s.first) (sym s.number) ∙ c.is_run in
-      let is : Some (state_text (hub_state last_one)) ≡ Some shown.text.items = h.text in
-      let state_is : state_text (hub_state last_one) ≡ shown.text.items = cc in
-      let text : answer_lines c.steps ++ state_text (last first c.steps) ≡ texts ++ shown.text.items =
+      let goes : run hub_answer first 0 (map line_of lines) ≡ Some c.steps = ap₂ (λ (t : HubState) n. run hub_answer t n (map line_of lines)) (sym s.first) (sym s.number) ∙ c.is_run in
+      let is : Some (hub_state_text (hub_state last_one)) ≡ Some shown.text.items = h.text in
+      let state_is : hub_state_text (hub_state last_one) ≡ shown.text.items = cc in
+      let text : answer_lines c.steps ++ hub_state_text (last first c.steps) ≡ texts ++ shown.text.items =
       ap₂ (λ x y. x ++ y) (sym c.is_texts)
-      (ap state_text (ap (λ (t : HubState). last t c.steps) (sym s.first) ∙ sym c.comes_to) ∙ state_is) in
+      (ap hub_state_text (ap (λ (t : HubState). last t c.steps) (sym s.first) ∙ sym c.comes_to) ∙ state_is) in
       record {
-        status = end_of (any_refused c.steps);
+        status = status_at_end (any_refused c.steps);
         finished = ends (any_refused c.steps);
         is_report = ap₂ (report_with hub_script) s.lenses (sym behind)
             ∙ ap (λ o. option_map (with_state hub_script) (option_map (of_steps first) o)) goes
-            ∙ ap (λ x. Some (x, end_of (any_refused c.steps))) text;
+            ∙ ap (λ x. Some (x, status_at_end (any_refused c.steps))) text;
       }
 
   opened : (r : RunningHub) (last shown : KeptHub) → IsStarted (program_part script) r → IsGiven (kept.Open r) lines texts last → IsShown last part.State outcome.Done shown

@@ -5,7 +5,7 @@ use Rattle.edit_journal.specs.Pieces.{has_no_end}
 use Rattle.lens_forms.specs.Forms.{FormTree}
 use Rattle.view_hub.specs.Views.{hub_tree}
 use Rattle.hub_run.specs.FoundLenses.{IsRefusalOf}
-use Rattle.hub_run.specs.Lenses.{HubRefusal, lenses_of, refusal_line}
+use Rattle.hub_run.specs.Lenses.{HubRefusal, lenses_of, hub_refusal_line}
 use Rattle.hub_run.specs.Runs.{first_state}
 use Rattle.hub_run.specs.declared.views.HubRefused.{HubRefused}
 use Rattle.kept_hubs.specs.Parts.{part_text, IsShow}
@@ -35,7 +35,7 @@ pub record IsRefusedWith (part : List ℕ) (why : HubRefused) (line : List ℕ) 
   pub refusal : HubRefusal
   pub lenses : lenses_of part ≡ Err refusal
   pub cause : IsRefusalOf why refusal
-  pub is_line : line ≡ refusal_line refusal
+  pub is_line : line ≡ hub_refusal_line refusal
 
 -- the program part is refused, or memory ran out
 abbrev pub IsRefusedPart : List ℕ → KeptHub → Type 0

@@ -6,7 +6,7 @@ use Rattle.value_json.specs.DocumentJson.{tree_of_document}
 use Rattle.complement_file.specs.ComplementJson.{tree_of_complement}
 use Rattle.lens_forms.specs.Forms.{FormTree, left_type, right_type}
 use Rattle.view_hub.specs.Hubs.{ViewTree, HubTree}
-use Rattle.hub_run.specs.Runs.{HubState, state_text}
+use Rattle.hub_run.specs.Runs.{HubState, hub_state_text}
 use Rattle.kept_hubs.specs.Steps.{hub_state}
 use Rattle.kept_hubs.specs.declared.outcome.HubPart.{HubPart}
 use Rattle.kept_hubs.specs.declared.outcome.HubPart.TheVariants as part
@@ -36,7 +36,7 @@ view_at t number =
 
 -- the text of a part; there is none of a view that there is not
 abbrev pub part_text : HubState → HubPart → Option (List ℕ)
-part_text t part.State = Some (state_text t)
+part_text t part.State = Some (hub_state_text t)
 part_text t part.Document = Some (hub_text t.forms t.hub)
 part_text t (part.ViewDocument number) = option_map document_text (view_at t number)
 part_text t (part.ViewComplement number) = option_map complement_text (view_at t number)

@@ -10,22 +10,22 @@ use Rattle.view_hub.specs.Views.{HubOf, hub_tree}
 use Rattle.hub_run.specs.Answers.{HubAnswerTree, carried, no_view, no_apply, no_edit, hub_answer_line}
 use Rattle.hub_run.specs.EditJson.{edit_of_line}
 use Rattle.hub_run.specs.FormLenses.{form_lens}
-use Rattle.hub_run.specs.RunStates.{forms_of_lenses, state_of}
-use Rattle.hub_run.specs.Runs.{HubState, IsInStep, take_hub_item}
+use Rattle.hub_run.specs.RunStates.{forms_of_lenses, hub_state_of}
+use Rattle.hub_run.specs.Runs.{HubState, IsHubInStep, take_hub_item}
 use Rattle.kept_hubs.specs.declared.outcome.HubOutcome.{HubOutcome}
 use Rattle.kept_hubs.specs.declared.outcome.HubOutcome.TheVariants as outcome
 use Rattle.kept_hubs.specs.declared.running.RunningHub.{RunningHub}
 
 -- the forms of the views' lenses, and the hub with its views
 abbrev pub hub_state : RunningHub → HubState
-hub_state r = state_of r.hub
+hub_state r = hub_state_of r.hub
 
 abbrev pub forms_of : RunningHub → List FormTree
 forms_of r = forms_of_lenses r.hub.lenses
 
 -- each view's complement and document are in its lens's consistency relation with the hub's document
 abbrev pub StaysInStep : HubOf ReadyForm → Type 0
-StaysInStep h = IsInStep (forms_of_lenses h.lenses) (state_of h)
+StaysInStep h = IsHubInStep (forms_of_lenses h.lenses) (hub_state_of h)
 
 -- ---- an item
 

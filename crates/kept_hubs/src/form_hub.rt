@@ -5,7 +5,7 @@ ghost use Rattle.lens_forms.specs.Forms.{form_tree};
 ghost use Rattle.view_hub.specs.Laws.{HaveOneLeftType, IsHub};
 ghost use Rattle.view_hub.specs.Views.{hub_tree};
 ghost use Rattle.hub_run.specs.FormLenses.{form_lens};
-ghost use Rattle.hub_run.specs.RunStates.{forms_of_lenses, state_of, IsHubOf};
+ghost use Rattle.hub_run.specs.RunStates.{forms_of_lenses, hub_state_of, IsHubOf};
 ghost use Rattle.hub_run.specs.Runs.{first_state};
 ghost use Rattle.kept_hubs.specs.Parts.{part_text};
 ghost use Rattle.kept_hubs.specs.Steps.{Answers, StaysInStep};
@@ -52,7 +52,7 @@ impl FormHub {
     /// The only error is running out of memory.
     pub(crate) fn start(alloc: Global, typed: Vec<Typed>) -> Result<FormHub, AllocError>
         requires one_left { HaveOneLeftType form_lens (map form_tree typed.items) }
-        ensures state { IfOk result (λ h. state_of h ≡ first_state (map form_tree typed.items)) }
+        ensures state { IfOk result (λ h. hub_state_of h ≡ first_state (map form_tree typed.items)) }
         ensures in_step { IfOk result (λ h. StaysInStep h) }
     {
         let hub = first_hub(alloc, &typed)?;
@@ -90,7 +90,7 @@ impl FormHub {
     ) -> Result<(Vec<u8>, HubOutcome), AllocError>
         ensures answers { IfOk result (λ made.
             Answers self.old number line.now made.0.items made.1 self.new) }
-        ensures unchanged { OnErr result (state_of self.new ≡ state_of self.old) }
+        ensures unchanged { OnErr result (hub_state_of self.new ≡ hub_state_of self.old) }
     {
         let before = copy_parts(alloc, self.hub.parts())?;
         match answer(alloc, &mut self.hub, number, line) {
@@ -107,7 +107,7 @@ impl FormHub {
     /// The only error is running out of memory.
     pub(crate) fn part(&self, alloc: Global, part: HubPart) -> Result<Option<Vec<u8>>, AllocError>
         ensures text { IfOk result (λ found.
-            part_text (state_of self.now) part ≡ option_map (λ text. text.items) found) }
+            part_text (hub_state_of self.now) part ≡ option_map (λ text. text.items) found) }
     {
         part_text(alloc, &self.hub, part)
     }

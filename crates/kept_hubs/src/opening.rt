@@ -6,7 +6,7 @@ ghost use Rattle.edit_journal.specs.Pieces.{has_no_end};
 ghost use Rattle.lens_forms.specs.Forms.{form_tree};
 ghost use Rattle.view_hub.specs.Laws.{HaveOneLeftType};
 ghost use Rattle.hub_run.specs.FormLenses.{form_lens};
-ghost use Rattle.hub_run.specs.FoundLenses.{IsRefused, HasRefusalLine};
+ghost use Rattle.hub_run.specs.FoundLenses.{IsRefusedHub, HasRefusalLine};
 ghost use Rattle.hub_run.specs.HubHeads.{HasPieces};
 ghost use Rattle.hub_run.specs.Lenses.{lenses_of};
 ghost use Rattle.kept_hubs.specs.Kept.{IsOpened, IsRefusedPart};
@@ -51,7 +51,7 @@ fn started(alloc: Global, typed: Vec<Typed>) -> KeptHub
 // What is kept of a program part that is refused.
 pub(crate) fn closed(alloc: Global, refused: HubRefused) -> KeptHub
     requires has_line { HasRefusalLine refused }
-    ensures { (part : List ℕ) → IsRefused (lenses_of part) refused → IsRefusedPart part result }
+    ensures { (part : List ℕ) → IsRefusedHub (lenses_of part) refused → IsRefusedPart part result }
 {
     match refusal_line(alloc, &refused) {
         Ok(line) => KeptHub::Refused(refused, line.into_vec()),

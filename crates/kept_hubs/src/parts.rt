@@ -10,7 +10,7 @@ ghost use Rattle.complement_file.specs.ComplementJson.{tree_of_complement};
 ghost use Rattle.lens_core.specs.Complements.{comp_tree, Fits};
 ghost use Rattle.lens_forms.specs.Forms.{form_tree};
 ghost use Rattle.view_hub.specs.Views.{hub_tree};
-ghost use Rattle.hub_run.specs.RunStates.{forms_of_lenses, state_of};
+ghost use Rattle.hub_run.specs.RunStates.{forms_of_lenses, hub_state_of};
 ghost use Rattle.kept_hubs.specs.Parts.{part_text, hub_text, view_at, document_text, complement_text};
 
 use crate::form_hub::is_in_step;
@@ -32,7 +32,7 @@ pub(crate) fn part_text(
     part: HubPart,
 ) -> Result<Option<Vec<u8>>, AllocError>
     ensures text { IfOk result (λ found.
-        part_text (state_of hub.now) part ≡ option_map (λ text. text.items) found) }
+        part_text (hub_state_of hub.now) part ≡ option_map (λ text. text.items) found) }
 {
     match part {
         HubPart::State => Ok(Some(hub_state_lines(alloc, hub)?)),
@@ -53,7 +53,7 @@ fn hub_text(alloc: Global, hub: &Hub<Flat>) -> Result<Vec<u8>, AllocError>
 
 // The text of the document of the view with this number.
 fn view_text(alloc: Global, hub: &Hub<Flat>, number: u64) -> Result<Option<Vec<u8>>, AllocError>
-    ensures { IfOk result (λ found. option_map document_text (view_at (state_of hub.now) number)
+    ensures { IfOk result (λ found. option_map document_text (view_at (hub_state_of hub.now) number)
         ≡ option_map (λ text. text.items) found) }
 {
     is_in_step(hub);
@@ -68,7 +68,7 @@ fn view_text(alloc: Global, hub: &Hub<Flat>, number: u64) -> Result<Option<Vec<u
 
 // The text of the complement of the view with this number.
 fn comp_text(alloc: Global, hub: &Hub<Flat>, number: u64) -> Result<Option<Vec<u8>>, AllocError>
-    ensures { IfOk result (λ found. option_map complement_text (view_at (state_of hub.now) number)
+    ensures { IfOk result (λ found. option_map complement_text (view_at (hub_state_of hub.now) number)
         ≡ option_map (λ text. text.items) found) }
 {
     is_in_step(hub);

@@ -2,7 +2,7 @@
 use Rattle.std.proofs.Common.{◌≡◌, ℕ, List, Result, Ok, Err, sym, ap, subst, ◌∙◌}
 use Rattle.std.specs.Prelude.{MatchResult}
 use Rattle.accepted_programs.specs.Program.{form_of_program, lens_of}
-use Rattle.accepted_programs.specs.Refused.{IsRefusal}
+use Rattle.accepted_programs.specs.Refused.{IsProgramRefusal}
 use Rattle.accepted_programs.specs.declared.program.Refused.{Refused}
 use Rattle.lens_forms.specs.Forms.{form_tree}
 use Rattle.lens_syntax.specs.Programs.{bounded}
@@ -15,7 +15,7 @@ use Rattle.kept_sessions.specs.declared.beginning.Begun.{Begun}
 
 pub text_begun : (r : Result Begun Refused) (text : List ℕ) (program : ProgramTree) → bounded text ≡ Ok program
     → MatchResult r (λ b. (form_of_program (Ok program) ≡ Ok (form_tree b.typed)) × IsTextOf (tree_of_program (canonical program)) b.text.items)
-    (λ refused. IsRefusal (form_of_program (Ok program)) refused)
-    → MatchResult r (λ b. (lens_of text ≡ Ok (form_tree b.typed)) × IsFirstRecord text b.text.items) (λ refused. IsRefusal (lens_of text) refused)
+    (λ refused. IsProgramRefusal (form_of_program (Ok program)) refused)
+    → MatchResult r (λ b. (lens_of text ≡ Ok (form_tree b.typed)) × IsFirstRecord text b.text.items) (λ refused. IsProgramRefusal (lens_of text) refused)
 text_begun (Ok b) text program is h = (ap form_of_program is ∙ h.0, record { tree = program; is = is; is_text = h.1 })
-text_begun (Err refused) text program is h = subst (λ outcome. IsRefusal outcome refused) (sym (ap form_of_program is)) h
+text_begun (Err refused) text program is h = subst (λ outcome. IsProgramRefusal outcome refused) (sym (ap form_of_program is)) h

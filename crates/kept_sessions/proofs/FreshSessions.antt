@@ -4,7 +4,7 @@ use Rattle.accepted_programs.specs.Program.{lens_of}
 use Rattle.doc_values.specs.Documents.{DocTree}
 use Rattle.edit_session.specs.Step.{TripleTree}
 use Rattle.edit_session.specs.Views.{triple_tree}
-use Rattle.pair_answers.specs.ItemRuns.{IsInStepFor, first_of}
+use Rattle.pair_answers.specs.ItemRuns.{IsInStepFor, triple_at_first}
 use Rattle.lens_forms.specs.Forms.{FormTree}
 use Rattle.texts.specs.declared.side.Side.{Side}
 use Rattle.kept_sessions.specs.Kept.{IsFresh, IsStarted, IsBrought, Brings, side_type, IsGoingOn}
@@ -18,8 +18,8 @@ module _ (program : List ℕ) (form : FormTree) (r : Running) (lens : lens_of pr
   fresh : IsFresh program r
   fresh = record { lens = lens ∙ ap (λ (f : FormTree). Ok f) (sym is); number = number; accepted = accepted; text = text }
 
-  pub started : triple_tree r.session.triple ≡ first_of form → IsStarted program r
-  started first = record { fresh = fresh; first = first ∙ ap first_of (sym is) }
+  pub started : triple_tree r.session.triple ≡ triple_at_first form → IsStarted program r
+  started first = record { fresh = fresh; first = first ∙ ap triple_at_first (sym is) }
 
   pub brought_in : (s : Side) (document : List ℕ) (doc : DocTree) → IsDocumentText (side_type form s) document doc → Brings form s doc (triple_tree r.session.triple)
       → IsBrought program s document r

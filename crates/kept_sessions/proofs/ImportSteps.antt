@@ -10,7 +10,7 @@ use Rattle.edit_inverse.specs.Construct.{construct}
 use Rattle.edit_module.specs.Action.{Why, act}
 use Rattle.edit_module.specs.Words.{WordTree}
 use Rattle.edit_session.specs.Step.{TripleTree, document_on, triple_from, after_carrying, after_action, step}
-use Rattle.pair_answers.specs.ItemRuns.{IsInStepFor, first_of}
+use Rattle.pair_answers.specs.ItemRuns.{IsInStepFor, triple_at_first}
 use Rattle.lens_core.specs.Complements.{CompTree}
 use Rattle.lens_core.specs.Sides.{near}
 use Rattle.lens_core.specs.Translation.{Translated, translate}
@@ -18,7 +18,7 @@ use Rattle.lens_forms.specs.Forms.{FormTree, left_type, right_type}
 use Rattle.kept_sessions.specs.Kept.{side_type, Brings}
 
 -- the first triple has the initial document on each side
-pub first_document : (form : FormTree) (s : Side) → document_on s (first_of form) ≡ initial (side_type form s)
+pub first_document : (form : FormTree) (s : Side) → document_on s (triple_at_first form) ≡ initial (side_type form s)
 first_document form Left = refl
 first_document form Right = refl
 
@@ -45,7 +45,7 @@ module _ (left right : TyTree) (carried : Side → CompTree → WordTree → Opt
       translated_own s x (document_on (other s) t) (carried s t.comp w) m (subst (λ a. after_action left right carried t s w a ≡ Some (Ok m)) acts h)
 
 -- the word that makes a document makes it from the document of the first triple
-pub made_first : (form l : FormTree) (s : Side) (doc : DocTree) (ty : TyTree) (word : WordTree) (t : TripleTree) → l ≡ form → t ≡ first_of form → ty ≡ side_type form s
+pub made_first : (form l : FormTree) (s : Side) (doc : DocTree) (ty : TyTree) (word : WordTree) (t : TripleTree) → l ≡ form → t ≡ triple_at_first form → ty ≡ side_type form s
     → act ty word (initial ty) ≡ Ok doc → act (near s (left_type l) (right_type l)) word (document_on s t) ≡ Ok doc
 made_first form l s doc ty word t lens first is makes =
     subst (λ (f : FormTree). act (side_type f s) word (document_on s t) ≡ Ok doc) (sym lens)
@@ -56,14 +56,14 @@ made_first form l s doc ty word t lens first is makes =
 abbrev Steps : FormTree → TripleTree → Side × WordTree → TripleTree → WordTree → Type 0
 Steps form t e after word = step (left_type form) (right_type form) (translate form) t e ≡ Some (Ok (after, word))
 
-pub brought : (form l : FormTree) (s : Side) (doc : DocTree) (ty : TyTree) (w : WordTree) (t after : TripleTree) (word : WordTree) → l ≡ form → t ≡ first_of form
+pub brought : (form l : FormTree) (s : Side) (doc : DocTree) (ty : TyTree) (w : WordTree) (t after : TripleTree) (word : WordTree) → l ≡ form → t ≡ triple_at_first form
     → ty ≡ side_type form s → w ≡ construct ty doc → act ty w (initial ty) ≡ Ok doc → Steps l t (s, w) after word → IsInStepFor l after → Brings form s doc after
 brought form l s doc ty w t after word lens first is made makes steps in_step =
     let acts = made_first form l s doc ty w t lens first is makes in
     let exact : w ≡ construct (side_type form s) doc = made ∙ ap (λ x. construct x doc) is in
     record {
       word = word;
-      stepped = subst (λ x. Steps form (first_of form) (s, x) after word) exact
+      stepped = subst (λ x. Steps form (triple_at_first form) (s, x) after word) exact
           (subst (λ u. Steps form u (s, w) after word) first (subst (λ (f : FormTree). Steps f t (s, w) after word) lens steps));
       has = step_own (left_type l) (right_type l) (translate l) t s w doc (after, word) steps acts;
       in_step = subst (λ (f : FormTree). IsInStepFor f after) lens in_step;

@@ -10,7 +10,7 @@ use Rattle.edit_module.specs.Words.{WordTree}
 use Rattle.edit_session.specs.Run.{take_item}
 use Rattle.edit_session.specs.Step.{TripleTree}
 use Rattle.edit_session.specs.Views.{triple_tree}
-use Rattle.pair_answers.specs.ItemRuns.{IsInStepFor, first_of}
+use Rattle.pair_answers.specs.ItemRuns.{IsInStepFor, triple_at_first}
 use Rattle.lens_core.specs.Translation.{translate}
 use Rattle.lens_flat.specs.declared.flat.ReadyForm.{ReadyForm}
 use Rattle.lens_forms.specs.Forms.{FormTree, form_tree, left_type, right_type}
@@ -52,7 +52,7 @@ any_length : (text : List ℕ) (program : ProgramTree) → bounded text ≡ Ok p
 any_length text program h = within _ (unbounded text) program h
 
 first_stands : (program text : List ℕ) (form : FormTree) → lens_of program ≡ Ok form → IsFirstRecord program text
-    → stands (text ∷ []) ≡ result_at form (first_of form) 0
+    → stands (text ∷ []) ≡ result_at form (triple_at_first form) 0
 first_stands program text form lens f =
     program_alone_stands program f.tree form text (any_length program f.tree f.is) (ap form_of_program (sym f.is) ∙ lens) f.is_text.reads_back
 
@@ -79,7 +79,7 @@ fresh_snapshot program text r f s =
     let typed = fresh_typed program r f in
     record {
       count = 0;
-      stand = snapshot_stands (r.text.items ∷ []) text (form_of r) (first_of (form_of r)) (triple_tree r.session.triple) 0 typed
+      stand = snapshot_stands (r.text.items ∷ []) text (form_of r) (triple_at_first (form_of r)) (triple_tree r.session.triple) 0 typed
           (first_stands program r.text.items (form_of r) f.lens f.text) s;
       typed = typed;
     }

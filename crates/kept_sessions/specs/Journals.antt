@@ -5,7 +5,7 @@ use Rattle.edit_journal.specs.Lines.{line_of}
 use Rattle.edit_session.specs.Step.{TripleTree}
 use Rattle.edit_session.specs.Views.{triple_tree}
 use Rattle.pair_answers.specs.Answers.{text_from}
-use Rattle.pair_answers.specs.ItemRuns.{JournalAnswer, items_of, run_of, first_of}
+use Rattle.pair_answers.specs.ItemRuns.{JournalAnswer, items_of, run_of, triple_at_first}
 use Rattle.lens_forms.specs.Forms.{FormTree}
 use Rattle.kept_sessions.specs.Kept.{IsStepped, text_of}
 use Rattle.kept_sessions.specs.Steps.{form_of}
@@ -46,7 +46,7 @@ pub record IsReported (program : List ℕ) (lines : List (List ℕ)) (text : Lis
   pub lens : lens_of program ≡ Ok form
   pub steps : List (TripleTree × JournalAnswer)
   pub is_run : run_of form (items_of (map line_of lines)) ≡ Some steps
-  pub is_text : text ≡ text_from form (first_of form) steps
+  pub is_text : text ≡ text_from form (triple_at_first form) steps
 
 -- a session of this form at this triple; or memory ran out
 abbrev pub IsSameState : FormTree → TripleTree → Kept → Type 0

@@ -2,7 +2,7 @@
 -- `IsReopened`, `IsResumed`, `IsImported`, `IsOpened`.
 use Rattle.std.specs.Prelude.{◌≡◌, ℕ, List, [], Bool, true, false, None, Some, Ok}
 use Rattle.accepted_programs.specs.Program.{lens_of}
-use Rattle.accepted_programs.specs.Refused.{IsRefusal}
+use Rattle.accepted_programs.specs.Refused.{IsProgramRefusal}
 use Rattle.accepted_programs.specs.declared.program.Refused.{Refused}
 use Rattle.answer_text.specs.RefusalLines.{IsLineOf}
 use Rattle.doc_values.specs.Documents.{DocTree}
@@ -11,7 +11,7 @@ use Rattle.edit_inverse.specs.Construct.{construct}
 use Rattle.edit_module.specs.Words.{WordTree}
 use Rattle.edit_session.specs.Step.{TripleTree, document_on, step}
 use Rattle.edit_session.specs.Views.{triple_tree}
-use Rattle.pair_answers.specs.ItemRuns.{IsInStepFor, first_of}
+use Rattle.pair_answers.specs.ItemRuns.{IsInStepFor, triple_at_first}
 use Rattle.lens_core.specs.Sides.{near}
 use Rattle.lens_core.specs.Translation.{translate}
 use Rattle.lens_forms.specs.Forms.{FormTree, left_type, right_type}
@@ -42,7 +42,7 @@ last_number = 18446744073709551615
 
 -- the program is refused for this cause, and this is the line of its refusal
 pub record IsRefusedWith (program : List ℕ) (refused : Refused) (line : List ℕ) : Type 0 where
-  pub why : IsRefusal (lens_of program) refused
+  pub why : IsProgramRefusal (lens_of program) refused
   pub is_line : IsLineOf (lens_of program) line
 
 -- what is kept of a program that is refused; or memory ran out
@@ -63,7 +63,7 @@ pub record IsFresh (program : List ℕ) (r : Running) : Type 0 where
 -- the lens is that of the program, at its first triple
 pub record IsStarted (program : List ℕ) (r : Running) : Type 0 where
   pub fresh : IsFresh program r
-  pub first : triple_tree r.session.triple ≡ first_of (form_of r)
+  pub first : triple_tree r.session.triple ≡ triple_at_first (form_of r)
 
 -- a session at the first triple, or why there is none
 abbrev pub IsOpened : List ℕ → Kept → Type 0
@@ -80,7 +80,7 @@ side_type form s = near s (left_type form) (right_type form)
 -- document on its side and is consistent.
 pub record Brings (form : FormTree) (s : Side) (doc : DocTree) (t : TripleTree) : Type 0 where
   pub word : WordTree
-  pub stepped : step (left_type form) (right_type form) (translate form) (first_of form)
+  pub stepped : step (left_type form) (right_type form) (translate form) (triple_at_first form)
       (s, construct (side_type form s) doc)
       ≡ Some (Ok (t, word))
   pub has : document_on s t ≡ doc

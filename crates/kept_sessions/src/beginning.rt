@@ -1,7 +1,7 @@
 //! A program that is accepted, with the first record of a log.
 ghost use Rattle.std.specs.Prelude.{◌≡◌, MatchResult, IfErr, IfOk, Ok};
 ghost use Rattle.accepted_programs.specs.Program.{form_of_program, lens_of};
-ghost use Rattle.accepted_programs.specs.Refused.{IsKnown, IsRefusal};
+ghost use Rattle.accepted_programs.specs.Refused.{IsKnown, IsProgramRefusal};
 ghost use Rattle.lens_forms.specs.Forms.{form_tree};
 ghost use Rattle.program_terms.specs.Views.{program_tree};
 ghost use Rattle.program_writing.specs.Canonical.{canonical};
@@ -27,7 +27,7 @@ pub(crate) struct Begun {
 pub(crate) fn begin(alloc: Global, program: &[u8]) -> Result<Begun, Refused>
     ensures begun { MatchResult result
         (λ b. (lens_of program.now ≡ Ok (form_tree b.typed)) × IsFirstRecord program.now b.text.items)
-        (λ refused. IsRefusal (lens_of program.now) refused) }
+        (λ refused. IsProgramRefusal (lens_of program.now) refused) }
     ensures known { IfErr result IsKnown }
 {
     begin_text(alloc, program)
@@ -38,7 +38,7 @@ pub(crate) fn begin(alloc: Global, program: &[u8]) -> Result<Begun, Refused>
 fn begin_text(alloc: Global, text: &[u8]) -> Result<Begun, Refused>
     ensures { MatchResult result
         (λ b. (lens_of text.now ≡ Ok (form_tree b.typed)) × IsFirstRecord text.now b.text.items)
-        (λ refused. IsRefusal (lens_of text.now) refused) }
+        (λ refused. IsProgramRefusal (lens_of text.now) refused) }
 {
     match read_program(alloc, text) {
         Ok(program) => {
@@ -56,7 +56,7 @@ fn begin_program(alloc: Global, program: &Program) -> Result<Begun, Refused>
     ensures { MatchResult result
         (λ b. (form_of_program (Ok (program_tree program.now)) ≡ Ok (form_tree b.typed))
         × IsTextOf (tree_of_program (canonical (program_tree program.now))) b.text.items)
-        (λ refused. IsRefusal (form_of_program (Ok (program_tree program.now))) refused) }
+        (λ refused. IsProgramRefusal (form_of_program (Ok (program_tree program.now))) refused) }
 {
     match check(alloc, program) {
         Ok(typed) => match first_record(alloc, program) {

@@ -1,9 +1,9 @@
 //! The session over a program, or the line of its refusal.
 ghost use Rattle.std.specs.Prelude.{◌≡◌, List, ℕ, IfOk, Ok};
 ghost use Rattle.accepted_programs.specs.Program.{lens_of};
-ghost use Rattle.accepted_programs.specs.Refused.{IsKnown, IsRefusal};
+ghost use Rattle.accepted_programs.specs.Refused.{IsKnown, IsProgramRefusal};
 ghost use Rattle.edit_session.specs.Views.{triple_tree};
-ghost use Rattle.pair_answers.specs.ItemRuns.{first_of};
+ghost use Rattle.pair_answers.specs.ItemRuns.{triple_at_first};
 ghost use Rattle.lens_forms.specs.Forms.{form_tree};
 ghost use Rattle.kept_sessions.specs.Kept.{IsOpened, IsRefusedProgram};
 ghost use Rattle.kept_sessions.specs.Records.{IsFirstRecord};
@@ -42,7 +42,7 @@ fn started(alloc: Global, begun: Begun) -> Kept
 // The session at the first triple of a lens.
 pub(crate) fn first_session(alloc: Global, typed: &Typed) -> Result<Session<Flat>, AllocError>
     ensures form { IfOk result (λ s. form_tree s.lens.typed ≡ form_tree typed.now) }
-    ensures first { IfOk result (λ s. triple_tree s.triple ≡ first_of (form_tree typed.now)) }
+    ensures first { IfOk result (λ s. triple_tree s.triple ≡ triple_at_first (form_tree typed.now)) }
 {
     let lens = Flat::compile(alloc, typed)?;
     Session::start(alloc, lens)
@@ -51,7 +51,7 @@ pub(crate) fn first_session(alloc: Global, typed: &Typed) -> Result<Session<Flat
 // What is kept of a program that is refused.
 pub(crate) fn closed(alloc: Global, refused: Refused) -> Kept
     requires { IsKnown refused }
-    ensures { (program : List ℕ) → IsRefusal (lens_of program) refused → IsRefusedProgram program result }
+    ensures { (program : List ℕ) → IsProgramRefusal (lens_of program) refused → IsRefusedProgram program result }
 {
     match refused_part_line(alloc, &refused) {
         Ok(line) => Kept::Refused(refused, line.into_vec()),

@@ -6,7 +6,7 @@ use Rattle.std.proofs.lemmas.List.{drop_all}
 use Rattle.texts.specs.declared.side.Side.{Side}
 use Rattle.texts.specs.declared.side.Side.TheVariants.{Left}
 use Rattle.edit_module.specs.Words.{PrimitiveTree, set, add, splice, at, stay, switch, modify, shape, WordTree}
-use Rattle.lens_forms.specs.Forms.{FormTree, ArmTrees, no_arms, more_arms, arm_list, form_arms_of, arm_tree, form_tree}
+use Rattle.lens_forms.specs.Forms.{FormTree, ArmTrees, no_arms, more_arms, form_arm_list, form_arms_of, arm_tree, form_tree}
 use Rattle.lens_forms.specs.Measures.{form_parts, arms_parts}
 use Rattle.lens_forms.specs.declared.form.Form.{Form}
 use Rattle.lens_core.specs.Complements.{CompTree, comp_count, missing}
@@ -108,7 +108,7 @@ inner_begun (Err fault) x y e h = subst (IsBeginFault x) (sym h) tt
 
 -- ---- the lens of the arm of a number
 
-pub arm_list-form_arms_of : (arms : List (List ℕ × List ℕ × FormTree)) → arm_list (form_arms_of arms) ≡ arms
+pub arm_list-form_arms_of : (arms : List (List ℕ × List ℕ × FormTree)) → form_arm_list (form_arms_of arms) ≡ arms
 arm_list-form_arms_of [] = refl
 arm_list-form_arms_of (a ∷ arms) = ap (λ x. a ∷ x) (arm_list-form_arms_of arms)
 

@@ -4,7 +4,7 @@ use Rattle.std.specs.Prelude.{nat_eq}
 use Rattle.std.proofs.lemmas.List.{drop_all}
 use Rattle.std.proofs.lemmas.Bool.Decides.{nat_tests}
 use Rattle.texts.specs.declared.side.Side.{Side}
-use Rattle.lens_forms.specs.Forms.{FormTree, RowTrees, RowTree, row_both, row_left, row_right, row_list, form_rows_of, row_tree, with_row, paired_rows}
+use Rattle.lens_forms.specs.Forms.{FormTree, RowTrees, FormRowTree, row_both, row_left, row_right, form_row_list, form_rows_of, row_tree, with_form_row, paired_rows}
 use Rattle.lens_forms.specs.declared.form.FormRow.{FormRow}
 use Rattle.doc_values.specs.declared.ty.Ty.{Ty}
 use Rattle.lens_forms.specs.Forms.{form_tree}
@@ -19,7 +19,7 @@ use Rattle.lens_core.specs.Beginnings.{IsInside}
 use Rattle.lens_core.specs.Complements.{CompTrees, comp_count}
 use Rattle.lens_branch.specs.RecordSteps.{has_near, pairs_of, RowAt, row_behind, row_of, begin_row, begin_in, begin_record, row_lens}
 
-pub row_list-form_rows_of : (rs : List RowTree) → row_list (form_rows_of rs) ≡ rs
+pub row_list-form_rows_of : (rs : List FormRowTree) → form_row_list (form_rows_of rs) ≡ rs
 row_list-form_rows_of [] = refl
 row_list-form_rows_of (row_both a b l ∷ rs) = ap (λ x. row_both a b l ∷ x) (row_list-form_rows_of rs)
 row_list-form_rows_of (row_left a t ∷ rs) = ap (λ x. row_left a t ∷ x) (row_list-form_rows_of rs)
@@ -27,7 +27,7 @@ row_list-form_rows_of (row_right b t ∷ rs) = ap (λ x. row_right b t ∷ x) (r
 
 -- ---- the search
 
-same_row : (k p : ℕ) (r : RowTree) → k ≡ p → ◌≡◌ {A = Option RowAt} (Some (record { pairs = k; row = r })) (Some (record { pairs = p; row = r }))
+same_row : (k p : ℕ) (r : FormRowTree) → k ≡ p → ◌≡◌ {A = Option RowAt} (Some (record { pairs = k; row = r })) (Some (record { pairs = p; row = r }))
 same_row k p r e = rw e refl
 
 behind_more : (k p : ℕ) (o : Option RowAt) → option_map (row_behind k) (option_map (row_behind p) o) ≡ option_map (row_behind (k + p)) o
@@ -62,7 +62,7 @@ found_all rows side f i k h = rw (drop_all i rows h) refl
 abbrev pub pair_count : List FormRow → ℕ
 pair_count rows = paired_rows (form_rows_of (map row_tree rows))
 
-with_row-pairs : (r : RowTree) (rows : RowTrees) → paired_rows (with_row r rows) ≡ pairs_of r + paired_rows rows
+with_row-pairs : (r : FormRowTree) (rows : RowTrees) → paired_rows (with_form_row r rows) ≡ pairs_of r + paired_rows rows
 with_row-pairs (row_both a b l) rows = omega arith
 with_row-pairs (row_left a t) rows = omega arith
 with_row-pairs (row_right b t) rows = omega arith
@@ -80,7 +80,7 @@ lens_here : (items : List FormRow) (i : ℕ) (r : FormRow) (a b : List ℕ) (l :
     → row_lens (map row_tree (drop i items)) 0 ≡ Some (form_tree l)
 lens_here items i r a b l h is row = rw (drop-cons items i r h, sym is, row, row_tree-both a b l) refl
 
-one_before : (k n : ℕ) (a b : List ℕ) (l : FormTree) (rows : List RowTree) → k ≡ suc n → row_lens (row_both a b l ∷ rows) k ≡ row_lens rows n
+one_before : (k n : ℕ) (a b : List ℕ) (l : FormTree) (rows : List FormRowTree) → k ≡ suc n → row_lens (row_both a b l ∷ rows) k ≡ row_lens rows n
 one_before k n a b l rows e = rw e refl
 
 pub lens_behind : (items : List FormRow) (i k : ℕ) (r : FormRow) (a b : List ℕ) (l : Form) → i < length items → r ≡ get_or items i r → r ≡ Both a b l → 0 < k
@@ -100,17 +100,17 @@ lens_past_right items i k r b t h is row = rw (drop-cons items i r h, sym is, ro
 lens_past_all : (items : List FormRow) (i k : ℕ) → length items ≤ i → row_lens (map row_tree (drop i items)) k ≡ None
 lens_past_all items i k h = rw (drop_all i items h) refl
 
-in_items : (items : List FormRow) (rows : RowTrees) (n : ℕ) → form_rows_of (map row_tree items) ≡ rows → row_lens (row_list rows) n ≡ row_lens (map row_tree items) n
+in_items : (items : List FormRow) (rows : RowTrees) (n : ℕ) → form_rows_of (map row_tree items) ≡ rows → row_lens (form_row_list rows) n ≡ row_lens (map row_tree items) n
 in_items items rows n e = rw (← e, row_list-form_rows_of) refl
 
 pub lens_is_here : (items : List FormRow) (rows : RowTrees) (n i k : ℕ) (r : FormRow) (a b : List ℕ) (l : Form) → form_rows_of (map row_tree items) ≡ rows
     → row_lens (map row_tree (drop i items)) k ≡ row_lens (map row_tree items) n → i < length items → r ≡ get_or items i r → r ≡ Both a b l → k ≡ 0
-    → Some (form_tree l) ≡ row_lens (row_list rows) n
+    → Some (form_tree l) ≡ row_lens (form_row_list rows) n
 lens_is_here items rows n i k r a b l e same h is row first =
     sym (lens_here items i r a b l h is row) ∙ (ap (row_lens (map row_tree (drop i items))) (sym first) ∙ (same ∙ sym (in_items items rows n e)))
 
 pub no_lens : (items : List FormRow) (rows : RowTrees) (n i k : ℕ) → form_rows_of (map row_tree items) ≡ rows
-    → row_lens (map row_tree (drop i items)) k ≡ row_lens (map row_tree items) n → length items ≤ i → None ≡ row_lens (row_list rows) n
+    → row_lens (map row_tree (drop i items)) k ≡ row_lens (map row_tree items) n → length items ≤ i → None ≡ row_lens (form_row_list rows) n
 no_lens items rows n i k e same h = sym (lens_past_all items i k h) ∙ (same ∙ sym (in_items items rows n e))
 
 -- a lens inside has fewer parts than the rows
@@ -130,24 +130,24 @@ row_inside : (cs : CompTrees) (u : WordTree) (o : Option RowAt) → IsInside (op
 row_inside cs u None h e = h
 row_inside cs u (Some q) h e = cc
 
-paired_inside : (cs : CompTrees) (u : WordTree) (k : ℕ) (r : RowTree) → IsInside (Some (begin_row cs u k r)) → pairs_of r ≡ 1
+paired_inside : (cs : CompTrees) (u : WordTree) (k : ℕ) (r : FormRowTree) → IsInside (Some (begin_row cs u k r)) → pairs_of r ≡ 1
 paired_inside cs u k (row_both a b l) h = refl
 paired_inside cs u k (row_left a t) h = absurd h
 paired_inside cs u k (row_right b t) h = absurd h
 
 pub begun_counted : (rows : RowTrees) (side : Side) (cs : CompTrees) (f : List ℕ) (u : WordTree) → IsInside (begin_record rows side cs (at f u)) → comp_count cs ≡ paired_rows rows
 begun_counted rows side cs f u h =
-    let e = (inside_if (nat_eq (comp_count cs) (paired_rows rows)) (option_map (begin_in cs u) (row_of (row_list rows) side f)) h).0 in
+    let e = (inside_if (nat_eq (comp_count cs) (paired_rows rows)) (option_map (begin_in cs u) (row_of (form_row_list rows) side f)) h).0 in
     grind (arith, nat_tests)
 
-pub begun_has_row : (rows : RowTrees) (side : Side) (cs : CompTrees) (f : List ℕ) (u : WordTree) → IsInside (begin_record rows side cs (at f u)) → row_of (row_list rows) side f ≡ None → ⊥
+pub begun_has_row : (rows : RowTrees) (side : Side) (cs : CompTrees) (f : List ℕ) (u : WordTree) → IsInside (begin_record rows side cs (at f u)) → row_of (form_row_list rows) side f ≡ None → ⊥
 begun_has_row rows side cs f u h e =
-    row_inside cs u (row_of (row_list rows) side f) (inside_if (nat_eq (comp_count cs) (paired_rows rows)) (option_map (begin_in cs u) (row_of (row_list rows) side f)) h).1 e
+    row_inside cs u (row_of (form_row_list rows) side f) (inside_if (nat_eq (comp_count cs) (paired_rows rows)) (option_map (begin_in cs u) (row_of (form_row_list rows) side f)) h).1 e
 
-pub begun_is_paired : (rows : RowTrees) (side : Side) (cs : CompTrees) (f : List ℕ) (u : WordTree) (q : RowAt) → IsInside (begin_record rows side cs (at f u)) → row_of (row_list rows) side f ≡ Some q
+pub begun_is_paired : (rows : RowTrees) (side : Side) (cs : CompTrees) (f : List ℕ) (u : WordTree) (q : RowAt) → IsInside (begin_record rows side cs (at f u)) → row_of (form_row_list rows) side f ≡ Some q
     → pairs_of q.row ≡ 1
 begun_is_paired rows side cs f u q h e =
-    let there = (inside_if (nat_eq (comp_count cs) (paired_rows rows)) (option_map (begin_in cs u) (row_of (row_list rows) side f)) h).1 in
+    let there = (inside_if (nat_eq (comp_count cs) (paired_rows rows)) (option_map (begin_in cs u) (row_of (form_row_list rows) side f)) h).1 in
     paired_inside cs u q.pairs q.row (subst (λ (o : Option RowAt). IsInside (option_map (begin_in cs u) o)) e there)
 
 abbrev pub is_at : PrimitiveTree → Bool

@@ -5,7 +5,7 @@ use Rattle.std.specs.Prelude.{slice_get}
 use Rattle.texts.specs.declared.side.Side.{Side}
 use Rattle.texts.specs.declared.side.Side.TheVariants.{Left}
 use Rattle.edit_module.specs.Words.{PrimitiveTree, stay, switch, WordTree}
-use Rattle.lens_forms.specs.Forms.{FormTree, ArmTrees, no_arms, more_arms, arm_list, form_tree}
+use Rattle.lens_forms.specs.Forms.{FormTree, ArmTrees, no_arms, more_arms, form_arm_list, form_tree}
 use Rattle.lens_core.specs.Complements.{CompTree, alt_comp, CompTrees, no_comps, more_comps, missing}
 use Rattle.lens_core.specs.Emitted.{stay_word, switch_word}
 use Rattle.lens_core.specs.Sides.{near, far}
@@ -104,7 +104,7 @@ lens_of a = a.2
 
 -- the lens of the arm of a number
 abbrev pub arm_lens : ArmTrees → ℕ → Option FormTree
-arm_lens arms i = option_map lens_of (slice_get (arm_list arms) i)
+arm_lens arms i = option_map lens_of (slice_get (form_arm_list arms) i)
 
 -- the translation by the lens of an arm
 abbrev pub arm_translation : ArmTrees → Side → ℕ → CompTree → WordTree → Option Translated

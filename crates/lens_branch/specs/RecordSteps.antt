@@ -5,7 +5,8 @@ use Rattle.std.specs.Prelude.{None, Some, option_map, option_and_then}
 use Rattle.texts.specs.declared.side.Side.{Side}
 use Rattle.texts.specs.declared.side.Side.TheVariants.{Left, Right}
 use Rattle.edit_module.specs.Words.{PrimitiveTree, at, WordTree, no_primitives}
-use Rattle.lens_forms.specs.Forms.{FormTree, RowTrees, RowTree, row_both, row_left, row_right, row_list, row_tree}
+use Rattle.lens_forms.specs.Forms.{FormTree, RowTrees, FormRowTree, row_both, row_left, row_right, form_row_list}
+use Rattle.lens_forms.specs.Forms.{row_tree}
 use Rattle.lens_forms.specs.Forms.{paired_rows}
 use Rattle.lens_core.specs.Complements.{CompTree, rec_comp, CompTrees, comp_count}
 use Rattle.lens_core.specs.Emitted.{at_word}
@@ -17,7 +18,7 @@ use Rattle.lens_core.specs.Beginnings.{Beginning, finished, inside}
 -- ---- the row of a field
 
 -- the row has this field on this side
-abbrev pub has_near : Side → List ℕ → RowTree → Bool
+abbrev pub has_near : Side → List ℕ → FormRowTree → Bool
 has_near side f (row_both a b l) = bytes_eq (near side a b) f
 has_near Left f (row_left a t) = bytes_eq a f
 has_near Right f (row_left a t) = false
@@ -25,7 +26,7 @@ has_near Left f (row_right b t) = false
 has_near Right f (row_right b t) = bytes_eq b f
 
 -- 1 for a paired row, which has a complement; 0 for a row of one side alone
-abbrev pub pairs_of : RowTree → ℕ
+abbrev pub pairs_of : FormRowTree → ℕ
 pairs_of (row_both a b l) = 1
 pairs_of (row_left a t) = 0
 pairs_of (row_right b t) = 0
@@ -33,14 +34,14 @@ pairs_of (row_right b t) = 0
 -- a row among rows: how many paired rows are before it, and the row
 pub record RowAt : Type 0 where
   pub pairs : ℕ
-  pub row : RowTree
+  pub row : FormRowTree
 
 -- the same row behind more paired rows
 abbrev pub row_behind : ℕ → RowAt → RowAt
 row_behind k r = record { pairs = r.pairs + k; row = r.row }
 
 -- the first row with this field on this side
-abbrev pub row_of : List RowTree → Side → List ℕ → Option RowAt
+abbrev pub row_of : List FormRowTree → Side → List ℕ → Option RowAt
 row_of [] side f = None
 row_of (r ∷ rows) side f =
     if has_near side f r then Some (record { pairs = 0; row = r })
@@ -50,7 +51,7 @@ row_of (r ∷ rows) side f =
 
 -- in a paired row its lens, the one with the number of the paired rows before it, translates the word; in a row of one
 -- side alone the word is translated to the empty word
-abbrev pub begin_row : CompTrees → WordTree → ℕ → RowTree → Beginning
+abbrev pub begin_row : CompTrees → WordTree → ℕ → FormRowTree → Beginning
 begin_row cs u k (row_both a b l) = inside k (comp_at cs k) u
 begin_row cs u k (row_left a t) = finished (no_primitives, rec_comp cs)
 begin_row cs u k (row_right b t) = finished (no_primitives, rec_comp cs)
@@ -62,13 +63,13 @@ begin_in cs u r = begin_row cs u r.pairs r.row
 -- the beginning in a record with these complements, one for each paired row
 abbrev pub begin_record : RowTrees → Side → CompTrees → PrimitiveTree → Option Beginning
 begin_record rows side cs (at f u) =
-    if nat_eq (comp_count cs) (paired_rows rows) then option_map (begin_in cs u) (row_of (row_list rows) side f)
+    if nat_eq (comp_count cs) (paired_rows rows) then option_map (begin_in cs u) (row_of (form_row_list rows) side f)
     else None
 begin_record rows side cs _ = None
 
 -- the finish in a paired row: At of its far field, and its new complement in its place; a row of one side alone needs
 -- none
-abbrev pub finish_row : Side → CompTrees → Translated → ℕ → RowTree → Translated
+abbrev pub finish_row : Side → CompTrees → Translated → ℕ → FormRowTree → Translated
 finish_row side cs r k (row_both a b l) = (at_word (far side a b) r.0, rec_comp (put_comp cs k r.1))
 finish_row side cs r k (row_left a t) = r
 finish_row side cs r k (row_right b t) = r
@@ -79,13 +80,13 @@ finish_in side cs r (Some q) = finish_row side cs r q.pairs q.row
 
 -- the finish in a record, from what the lens inside translated; only after a beginning that needs it
 abbrev pub finish_record : RowTrees → Side → CompTrees → PrimitiveTree → Translated → Translated
-finish_record rows side cs (at f u) r = finish_in side cs r (row_of (row_list rows) side f)
+finish_record rows side cs (at f u) r = finish_in side cs r (row_of (form_row_list rows) side f)
 finish_record rows side cs _ r = r
 
 -- ---- the lens inside
 
 -- the lens of the paired row of a number, which is counted from 0 among the paired rows
-abbrev pub row_lens : List RowTree → ℕ → Option FormTree
+abbrev pub row_lens : List FormRowTree → ℕ → Option FormTree
 row_lens [] i = None
 row_lens (row_both a b l ∷ rows) zero = Some l
 row_lens (row_both a b l ∷ rows) (suc i) = row_lens rows i
@@ -94,7 +95,7 @@ row_lens (row_right b t ∷ rows) i = row_lens rows i
 
 -- the translation by the lens of the paired row of a number
 abbrev pub row_translation : RowTrees → Side → ℕ → CompTree → WordTree → Option Translated
-row_translation rows side i c w = option_and_then (λ l. translate l side c w) (row_lens (row_list rows) i)
+row_translation rows side i c w = option_and_then (λ l. translate l side c w) (row_lens (form_row_list rows) i)
 
 -- ---- how contracts see a `FoundRow`
 

@@ -5,7 +5,7 @@ ghost use Rattle.std.specs.Prelude.{◌≡◌, ℕ, List, IsTrue, Some, option_a
 ghost use Rattle.texts.specs.declared.side.Side.{Side};
 ghost use Rattle.doc_values.specs.Types.{are_distinct};
 ghost use Rattle.edit_module.specs.Words.{PrimitiveTree, WordTree};
-ghost use Rattle.lens_forms.specs.Forms.{FormTree, RowTrees, row_list, form_rec, ArmTrees, form_alt};
+ghost use Rattle.lens_forms.specs.Forms.{FormTree, RowTrees, form_row_list, form_rec, ArmTrees, form_alt};
 ghost use Rattle.lens_forms.specs.Typing.{left_arms, right_arms};
 ghost use Rattle.lens_core.specs.Complements.{CompTree, CompTrees, rec_comp, alt_comp};
 ghost use Rattle.lens_core.specs.Laws.{Laws};
@@ -44,7 +44,8 @@ pub fn record_goes_round()
 #[tactic(auto, using(crate::proofs::RecordRounds::record_begins_in_row))]
 pub fn record_begins_in_row()
     ensures { (rows : RowTrees) (side : Side) (cs : CompTrees) (p : PrimitiveTree) (i : ℕ) (c : CompTree) (w : WordTree)
-        → begin_record rows side cs p ≡ Some (inside i c w) → (l : FormTree) × (row_lens (row_list rows) i ≡ Some l) }
+        → begin_record rows side cs p ≡ Some (inside i c w)
+        → (l : FormTree) × (row_lens (form_row_list rows) i ≡ Some l) }
 {}
 
 /// The translation of alternatives is their beginning, the translation of the lens inside, and their finish, where the

@@ -3,7 +3,7 @@
 ghost use Rattle.std.specs.Prelude.{◌≡◌, ◌+◌, ◌<◌, ◌≤◌, IfOk, IsTrue, MatchOption, MatchResult, Some, option_map};
 ghost use Rattle.edit_module.specs.Views.{primitive_tree, word_tree};
 ghost use Rattle.edit_module.specs.Words.{no_primitives};
-ghost use Rattle.lens_forms.specs.Forms.{form_tree, row_tree, row_list, rows_tree, paired_rows};
+ghost use Rattle.lens_forms.specs.Forms.{form_tree, row_tree, form_row_list, rows_tree, paired_rows};
 ghost use Rattle.lens_forms.specs.Measures.{form_parts, rows_parts};
 ghost use Rattle.lens_core.specs.Complements.{comp_tree, comps_tree, comp_count, rec_comp, nil};
 ghost use Rattle.lens_core.specs.Emitted.{at_word};
@@ -136,7 +136,7 @@ fn are_nil(first: &Comp, second: &Comp) -> bool
 /// It has fewer parts than the rows.
 #[tactic(auto, using(crate::proofs::RowSearch::place_rules))]
 pub fn row_form(rows: &FormRows, number: u64) -> Option<&Form>
-    ensures lens { option_map (λ l. form_tree l.now) result ≡ row_lens (row_list (rows_tree rows.now)) number }
+    ensures lens { option_map (λ l. form_tree l.now) result ≡ row_lens (form_row_list (rows_tree rows.now)) number }
     ensures smaller { MatchOption result (Unit {0}) (λ l. form_parts (form_tree l.now) < rows_parts (rows_tree rows.now)) }
 {
     let mut before = number;
@@ -168,7 +168,7 @@ fn nothing(alloc: Global, comps: &Comps) -> Result<Carried, AllocError>
 // The first row with this field on this side.
 #[tactic(auto, using(crate::proofs::RowSearch::row_rules))]
 fn find_row<'a>(rows: &'a FormRows, side: Side, field: &Name) -> Option<FoundRow<'a>>
-    ensures found { option_map row_seen result ≡ row_of (row_list (rows_tree rows.now)) side field.now }
+    ensures found { option_map row_seen result ≡ row_of (form_row_list (rows_tree rows.now)) side field.now }
     ensures within { MatchOption result (Unit {0}) (λ r. r.pairs + pairs_of (row_tree r.row.now)
         ≤ paired_rows (rows_tree rows.now)) }
 {

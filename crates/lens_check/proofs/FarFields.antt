@@ -10,7 +10,7 @@ use Rattle.texts.specs.Keys.{has_name}
 use Rattle.texts.proofs.Conjunction.{first as first_and, second as second_and}
 use Rattle.doc_values.specs.Types.{FieldTrees, no_fields, more_fields, names_of, are_distinct}
 use Rattle.doc_values.specs.declared.ty.Ty.{Ty}
-use Rattle.lens_forms.specs.Forms.{FormTree, form_tree, form_rec, RowTrees, no_rows, both, only_left, only_right, RowTree, row_both, row_left, row_right, row_tree, with_row, form_rows_of}
+use Rattle.lens_forms.specs.Forms.{FormTree, form_tree, form_rec, RowTrees, no_rows, both, only_left, only_right, FormRowTree, row_both, row_left, row_right, row_tree, with_form_row, form_rows_of}
 use Rattle.lens_forms.specs.declared.form.Form.{Form}
 use Rattle.lens_forms.specs.declared.form.FormRow.{FormRow}
 use Rattle.lens_forms.specs.declared.form.FormRow.TheVariants.{Both, OnlyLeft, OnlyRight}
@@ -221,7 +221,7 @@ first_has : (s : Side) (a b : List ℕ) (l : FormTree) (rows : RowTrees) → has
 first_has Left a b l rows = rw (bytes_eq-refl a) refl
 first_has Right a b l rows = rw (bytes_eq-refl b) refl
 
-later_has : (s : Side) (n : List ℕ) (r : RowTree) (rows : RowTrees) → has_name n (names_on s rows) ≡ true → has_name n (names_on s (with_row r rows)) ≡ true
+later_has : (s : Side) (n : List ℕ) (r : FormRowTree) (rows : RowTrees) → has_name n (names_on s rows) ≡ true → has_name n (names_on s (with_form_row r rows)) ≡ true
 later_has Left n (row_both a b l) rows h = or_second (bytes_eq n a) (has_name n (names_on Left rows)) h
 later_has Left n (row_left a t) rows h = or_second (bytes_eq n a) (has_name n (names_on Left rows)) h
 later_has Left n (row_right b t) rows h = h
@@ -232,5 +232,5 @@ later_has Right n (row_right b t) rows h = or_second (bytes_eq n b) (has_name n 
 pub near_among : (rows : List FormRow) (s : Side) (i : ℕ) (r : FormRow) (a b : List ℕ) (l : Form) → i < length rows → r ≡ get_or rows i r → r ≡ Both a b l
     → has_name (near s a b) (names_on s (form_rows_of (map row_tree rows))) ≡ true
 near_among [] s i r a b l h is row = absurd (omega arith)
-near_among (q ∷ rows) s zero r a b l h is row = subst (λ z. has_name (near s a b) (names_on s (with_row z (form_rows_of (map row_tree rows)))) ≡ true) (sym (ap row_tree (sym is ∙ row) ∙ row_tree-both a b l)) (first_has s a b (form_tree l) (form_rows_of (map row_tree rows)))
+near_among (q ∷ rows) s zero r a b l h is row = subst (λ z. has_name (near s a b) (names_on s (with_form_row z (form_rows_of (map row_tree rows)))) ≡ true) (sym (ap row_tree (sym is ∙ row) ∙ row_tree-both a b l)) (first_has s a b (form_tree l) (form_rows_of (map row_tree rows)))
 near_among (q ∷ rows) s (suc i) r a b l h is row = later_has s (near s a b) (row_tree q) (form_rows_of (map row_tree rows)) (near_among rows s i r a b l (omega arith) is row)

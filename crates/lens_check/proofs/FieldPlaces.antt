@@ -4,11 +4,11 @@ use Rattle.std.specs.Prelude.{◌||◌, bytes_eq, if◌then◌else◌}
 use Rattle.std.proofs.lemmas.List.{drop_all, get_or_past}
 use Rattle.texts.specs.declared.side.Side.{Side}
 use Rattle.texts.specs.declared.side.Side.TheVariants.{Left, Right}
-use Rattle.texts.specs.Keys.{is_before, is_rising, has_name, rank}
+use Rattle.texts.specs.Keys.{is_before, is_rising, has_name, key_rank}
 use Rattle.texts.proofs.KeyOrder.{rising-rest}
 use Rattle.doc_values.specs.Types.{TyTree, FieldTrees, no_fields, more_fields, names_of, are_distinct}
 use Rattle.doc_values.proofs.DistinctNames.{are_distinct-rest}
-use Rattle.lens_forms.specs.Forms.{RowTrees, no_rows, both, only_left, only_right, RowTree, row_both, row_left, row_right, row_tree, with_row, form_rows_of, left_type, right_type, left_fields, right_fields, insert_field}
+use Rattle.lens_forms.specs.Forms.{RowTrees, no_rows, both, only_left, only_right, FormRowTree, row_both, row_left, row_right, row_tree, with_form_row, form_rows_of, left_type, right_type, left_fields, right_fields, insert_field}
 use Rattle.lens_forms.specs.Typing.{left_names, right_names}
 use Rattle.lens_forms.specs.declared.form.FormRow.{FormRow}
 use Rattle.lens_forms.proofs.SortedFields.{inserted, inserted_names}
@@ -75,13 +75,13 @@ fields_on-rising Right (only_right b t rows) h =
 -- ---- counting the fields that are before a name
 
 abbrev pub count_from : Side → List ℕ → List FormRow → ℕ → ℕ
-count_from s n rows i = rank n (names_of (fields_on s (form_rows_of (map row_tree (drop i rows)))))
+count_from s n rows i = key_rank n (names_of (fields_on s (form_rows_of (map row_tree (drop i rows)))))
 
-put-rank : (k n : List ℕ) (t : TyTree) (fs : FieldTrees) → rank k (names_of (insert_field n t fs)) ≡ one_before n k + rank k (names_of fs)
-put-rank k n t fs = ap (rank k) (insert_field-names n t fs) ∙ rank-insert k n (names_of fs)
+put-rank : (k n : List ℕ) (t : TyTree) (fs : FieldTrees) → key_rank k (names_of (insert_field n t fs)) ≡ one_before n k + key_rank k (names_of fs)
+put-rank k n t fs = ap (key_rank k) (insert_field-names n t fs) ∙ rank-insert k n (names_of fs)
 
-with_row-count : (s : Side) (n : List ℕ) (r : RowTree) (rows : RowTrees)
-    → rank n (names_of (fields_on s (with_row r rows))) ≡ (if has_field_before s n r then 1 else 0) + rank n (names_of (fields_on s rows))
+with_row-count : (s : Side) (n : List ℕ) (r : FormRowTree) (rows : RowTrees)
+    → key_rank n (names_of (fields_on s (with_form_row r rows))) ≡ (if has_field_before s n r then 1 else 0) + key_rank n (names_of (fields_on s rows))
 with_row-count Left n (row_both a b l) rows = put-rank n a (left_type l) (left_fields rows)
 with_row-count Left n (row_left a t) rows = put-rank n a t (left_fields rows)
 with_row-count Left n (row_right b t) rows = omega arith
@@ -129,7 +129,7 @@ at_later p ps i j e = rw e refl
 
 -- the pattern of a field is at the place of its name
 pattern_place : (fs : FieldTrees) (ps : PatternTrees) (n : List ℕ) → is_rising (names_of fs) ≡ true → has_name n (names_of fs) ≡ true
-    → pattern_at fs ps n ≡ get_or (pattern_list ps) (rank n (names_of fs)) hole
+    → pattern_at fs ps n ≡ get_or (pattern_list ps) (key_rank n (names_of fs)) hole
 pattern_place no_fields ps n r h = cc
 pattern_place (more_fields m t fs) no_patterns n r h = refl
 pattern_place (more_fields m t fs) (more_patterns p ps) n r h =
@@ -139,18 +139,18 @@ pattern_place (more_fields m t fs) (more_patterns p ps) n r h =
     later e true k j = let back = differs_back m n e in cc
     later e false k j = j
 
-    go : (b : Bool) → bytes_eq m n ≡ b → (has_name n (names_of fs) ≡ true → pattern_at fs ps n ≡ get_or (pattern_list ps) (rank n (names_of fs)) hole)
-        → (if b then p else pattern_at fs ps n) ≡ get_or (p ∷ pattern_list ps) (rank n (m ∷ names_of fs)) hole
+    go : (b : Bool) → bytes_eq m n ≡ b → (has_name n (names_of fs) ≡ true → pattern_at fs ps n ≡ get_or (pattern_list ps) (key_rank n (names_of fs)) hole)
+        → (if b then p else pattern_at fs ps n) ≡ get_or (p ∷ pattern_list ps) (key_rank n (m ∷ names_of fs)) hole
     go true e again =
-        at_first p (pattern_list ps) (rank n (m ∷ names_of fs))
-        (subst (λ z. rank z (m ∷ names_of fs) ≡ 0) (bytes_eq-is m n e) (rank-first m (names_of fs) r))
+        at_first p (pattern_list ps) (key_rank n (m ∷ names_of fs))
+        (subst (λ z. key_rank z (m ∷ names_of fs) ≡ 0) (bytes_eq-is m n e) (rank-first m (names_of fs) r))
     go false e again =
         let k : has_name n (names_of fs) ≡ true = later e (bytes_eq n m) refl h in
         let on : is_before m n ≡ true = before_member m n (names_of fs) r k in
-        again k ∙ at_later p (pattern_list ps) (rank n (m ∷ names_of fs)) (rank n (names_of fs)) (rw on refl)
+        again k ∙ at_later p (pattern_list ps) (key_rank n (m ∷ names_of fs)) (key_rank n (names_of fs)) (rw on refl)
 
 pub near_place : (fs : FieldTrees) (p : PatternTree) (n : List ℕ) → is_rising (names_of fs) ≡ true → has_name n (names_of fs) ≡ true
-    → field_pattern p (rank n (names_of fs)) ≡ patterns_by_name fs p n
+    → field_pattern p (key_rank n (names_of fs)) ≡ patterns_by_name fs p n
 near_place fs (rec_pattern ps) n r h = sym (pattern_place fs ps n r h)
 near_place fs hole n r h = refl
 near_place fs unit_pattern n r h = refl

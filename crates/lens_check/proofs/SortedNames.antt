@@ -2,7 +2,7 @@
 use Rattle.std.proofs.Common.{◌≡◌, ◌∙◌, ℕ, zero, suc, ◌+◌, Bool, true, false, List, [], ◌∷◌, map, refl, ap, sym, subst, arith}
 use Rattle.std.specs.List.{insert}
 use Rattle.std.specs.Prelude.{bytes_eq, if◌then◌else◌}
-use Rattle.texts.specs.Keys.{is_before, is_rising, has_name, rank}
+use Rattle.texts.specs.Keys.{is_before, is_rising, has_name, key_rank}
 use Rattle.texts.proofs.KeyOrder.{before-trans, before-total, before-differs, rising-first, rising-rest, after-member, bytes_eq-refl, rank-none, before_back}
 use Rattle.lens_check.specs.ImageParts.{place_among}
 use Rattle.texts.proofs.Tests.{bytes_eq-is}
@@ -115,25 +115,25 @@ pub ruleset put_rules = (insert-map)
 abbrev pub one_before : List ℕ → List ℕ → ℕ
 one_before m n = if is_before m n then 1 else 0
 
-pub rank-more-name : (k m : List ℕ) (ms : List (List ℕ)) → rank k (m ∷ ms) ≡ one_before m k + rank k ms
+pub rank-more-name : (k m : List ℕ) (ms : List (List ℕ)) → key_rank k (m ∷ ms) ≡ one_before m k + key_rank k ms
 rank-more-name k m ms = go (is_before m k)
   where
-    go : (b : Bool) → (if b then suc (rank k ms) else rank k ms) ≡ (if b then 1 else 0) + rank k ms
+    go : (b : Bool) → (if b then suc (key_rank k ms) else key_rank k ms) ≡ (if b then 1 else 0) + key_rank k ms
     go true = omega arith
     go false = omega arith
 
-pub rank-insert : (k n : List ℕ) (ms : List (List ℕ)) → rank k (insert_name n ms) ≡ one_before n k + rank k ms
+pub rank-insert : (k n : List ℕ) (ms : List (List ℕ)) → key_rank k (insert_name n ms) ≡ one_before n k + key_rank k ms
 rank-insert k n [] = rank-more-name k n []
 rank-insert k n (m ∷ ms) = go (is_before m n) (rank-insert k n ms)
   where
-    go : (b : Bool) → rank k (insert_name n ms) ≡ one_before n k + rank k ms → rank k (if b then m ∷ insert_name n ms else n ∷ m ∷ ms) ≡ one_before n k + rank k (m ∷ ms)
+    go : (b : Bool) → key_rank k (insert_name n ms) ≡ one_before n k + key_rank k ms → key_rank k (if b then m ∷ insert_name n ms else n ∷ m ∷ ms) ≡ one_before n k + key_rank k (m ∷ ms)
     go true e = omega (arith, rank-more-name k m (insert_name n ms), rank-more-name k m ms, e)
     go false e = rank-more-name k n (m ∷ ms)
 
-pub rank-first : (n : List ℕ) (ms : List (List ℕ)) → is_rising (n ∷ ms) ≡ true → rank n (n ∷ ms) ≡ 0
+pub rank-first : (n : List ℕ) (ms : List (List ℕ)) → is_rising (n ∷ ms) ≡ true → key_rank n (n ∷ ms) ≡ 0
 rank-first n ms r = go (is_before n n) refl (rank-none n ms (rising-first n ms r) (rising-rest n ms r))
   where
-    go : (b : Bool) → is_before n n ≡ b → rank n ms ≡ 0 → (if b then suc (rank n ms) else rank n ms) ≡ 0
+    go : (b : Bool) → is_before n n ≡ b → key_rank n ms ≡ 0 → (if b then suc (key_rank n ms) else key_rank n ms) ≡ 0
     go true e h = let off = before-differs n n e in let same = bytes_eq-refl n in cc
     go false e h = h
 

@@ -5,7 +5,7 @@ use Rattle.texts.specs.Keys.{is_before}
 use Rattle.hold_shapes.specs.declared.shape.Shape.{Shape}
 use Rattle.texts.specs.declared.side.Side.{Side}
 use Rattle.texts.specs.declared.side.Side.TheVariants.{Left, Right}
-use Rattle.lens_forms.specs.Forms.{FormTree, RowTree, row_both, row_left, row_right, ArmTrees, no_arms, more_arms}
+use Rattle.lens_forms.specs.Forms.{FormTree, FormRowTree, row_both, row_left, row_right, ArmTrees, no_arms, more_arms}
 use Rattle.image_laws.specs.Patterns.{PatternTree, hole, rec_pattern, hold_pattern, pattern_list, pattern_count}
 use Rattle.image_laws.specs.Patterns.{pattern_tree}
 use Rattle.image_laws.specs.Image.{is_same_shape}
@@ -51,7 +51,7 @@ if_far Left Left x y = y
 if_far Right Right x y = y
 
 -- the row has a field on the side that is before a name
-abbrev pub has_field_before : Side → List ℕ → RowTree → Bool
+abbrev pub has_field_before : Side → List ℕ → FormRowTree → Bool
 has_field_before Left n (row_both a b l) = is_before a n
 has_field_before Left n (row_left a t) = is_before a n
 has_field_before Left n (row_right b t) = false

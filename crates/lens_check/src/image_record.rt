@@ -2,7 +2,7 @@
 
 ghost use Rattle.std.specs.Prelude.{◌≡◌, ◌≤◌, [], IsTrue, OnOk, length, map};
 ghost use Rattle.std.specs.List.{insert};
-ghost use Rattle.texts.specs.Keys.{has_name, is_rising, rank};
+ghost use Rattle.texts.specs.Keys.{has_name, is_rising, key_rank};
 ghost use Rattle.doc_values.specs.Types.{names_of};
 ghost use Rattle.lens_forms.specs.Forms.{row_tree, rows_tree};
 ghost use Rattle.lens_core.specs.Sides.{fields_on};
@@ -118,7 +118,7 @@ pub(crate) fn near_pattern<'a>(
 // The place of a field among the fields of a side: how many of them are before it.
 #[tactic(auto, using(crate::proofs::FieldPlaces::count_rules))]
 fn field_place(rows: &FormRows, side: Side, name: &Name) -> usize
-    ensures { result ≡ rank name.now (names_of (fields_on side (rows_tree rows.now))) }
+    ensures { result ≡ key_rank name.now (names_of (fields_on side (rows_tree rows.now))) }
 {
     let mut place = 0;
     for row in rows.as_slice() {

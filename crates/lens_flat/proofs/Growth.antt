@@ -4,7 +4,7 @@ use Rattle.std.specs.Prelude.{Vec}
 use Rattle.std.specs.declared.alloc.Global.{Global}
 use Rattle.doc_values.specs.Types.{fields_tree}
 use Rattle.doc_values.specs.declared.ty.Fields.{Fields}
-use Rattle.lens_forms.specs.Forms.{FormTree, form_then, form_rec, form_alt, form_part, form_inv, RowTrees, row_list, ArmTrees, form_tree, rows_tree, arms_tree}
+use Rattle.lens_forms.specs.Forms.{FormTree, form_then, form_rec, form_alt, form_part, form_inv, RowTrees, form_row_list, ArmTrees, form_tree, rows_tree, arms_tree}
 use Rattle.lens_forms.specs.declared.form.Form.{Form}
 use Rattle.lens_forms.specs.declared.form.FormRows.{FormRows}
 use Rattle.lens_forms.specs.declared.form.FormArms.{FormArms}
@@ -55,11 +55,11 @@ inverse_ready a b l m h = record { grows = h.grows; inside = h.within; form_is =
 pub partition_ready : (es : List Entry) (fs gs : Fields) → AreSound es → fields_tree gs ≡ fields_tree fs → Readies es es (form_part (fields_tree fs)) (Partition gs)
 partition_ready es fs gs sound e = record { grows = grows_not es sound; inside = tt; form_is = ap (λ fs. form_part fs) e }
 
-pub record_ready : (a b : List Entry) (rows : RowTrees) (copy : FormRows) (inside : Vec ℕ Global) → AddsLenses a b (row_lens (row_list rows)) inside.items → rows_tree copy ≡ rows
+pub record_ready : (a b : List Entry) (rows : RowTrees) (copy : FormRows) (inside : Vec ℕ Global) → AddsLenses a b (row_lens (form_row_list rows)) inside.items → rows_tree copy ≡ rows
     → Readies a b (form_rec rows) (Record copy inside)
 record_ready a b rows copy inside h e = record {
   grows = h.grows;
-  inside = subst (λ (rs : RowTrees). AreLenses (form_at b) (length b) (row_lens (row_list rs)) inside.items) (sym e) h.lenses;
+  inside = subst (λ (rs : RowTrees). AreLenses (form_at b) (length b) (row_lens (form_row_list rs)) inside.items) (sym e) h.lenses;
   form_is = ap (λ (rs : RowTrees). form_rec rs) e;
 }
 

@@ -9,7 +9,7 @@ use Rattle.texts.specs.Sides.{other}
 use Rattle.doc_values.specs.Types.{fields_tree}
 use Rattle.doc_values.specs.declared.ty.Fields.{Fields}
 use Rattle.edit_module.specs.Words.{PrimitiveTree, WordTree}
-use Rattle.lens_forms.specs.Forms.{FormTree, form_then, form_rec, form_alt, form_part, form_inv, row_list, form_tree, rows_tree, arms_tree}
+use Rattle.lens_forms.specs.Forms.{FormTree, form_then, form_rec, form_alt, form_part, form_inv, form_row_list, form_tree, rows_tree, arms_tree}
 use Rattle.lens_forms.specs.declared.form.Form.{Form}
 use Rattle.lens_forms.specs.declared.form.FormRows.{FormRows}
 use Rattle.lens_forms.specs.declared.form.FormArms.{FormArms}
@@ -73,7 +73,7 @@ pub rows_ready : (table : List Entry) (n : ℕ) (rows : FormRows) (inside : Vec 
 rows_ready table n rows inside h = subst IsReady h.form_is h.here.ready
 
 row_lens_at : (table : List Entry) (n : ℕ) (rows : FormRows) (inside : Vec ℕ Global) (i k : ℕ) → IsAt table n (Record rows inside) → slice_get inside.items i ≡ Some k
-    → row_lens (row_list (rows_tree rows)) i ≡ Some (form_at table k)
+    → row_lens (form_row_list (rows_tree rows)) i ≡ Some (form_at table k)
 row_lens_at table n rows inside i k h e = h.inside.found i ∙ ap (option_map (form_at table)) e
 
 pub row_ready : (table : List Entry) (n : ℕ) (rows : FormRows) (inside : Vec ℕ Global) (i k : ℕ) → IsAt table n (Record rows inside) → slice_get inside.items i ≡ Some k

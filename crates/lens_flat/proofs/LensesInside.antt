@@ -4,7 +4,7 @@ use Rattle.std.specs.Prelude.{slice_get}
 use Rattle.std.proofs.lemmas.List.{take_all, map_more}
 use Rattle.std.proofs.lemmas.Option.{slice_get-map}
 use Rattle.doc_values.specs.declared.ty.Ty.{Ty}
-use Rattle.lens_forms.specs.Forms.{FormTree, RowTree, row_both, row_left, row_right, row_list, form_rows_of, row_tree, form_arms_of, arm_tree, form_tree}
+use Rattle.lens_forms.specs.Forms.{FormTree, FormRowTree, row_both, row_left, row_right, form_row_list, form_rows_of, row_tree, form_arms_of, arm_tree, form_tree}
 use Rattle.lens_forms.specs.declared.form.Form.{Form}
 use Rattle.lens_forms.specs.declared.form.FormRow.{FormRow}
 use Rattle.lens_forms.specs.declared.form.FormRow.TheVariants.{Both, OnlyLeft, OnlyRight}
@@ -73,20 +73,20 @@ all_there a b ks ls lens h are = record {
 -- ---- rows
 
 -- the lenses of the paired rows
-abbrev pub row_lenses : List RowTree → List FormTree
+abbrev pub row_lenses : List FormRowTree → List FormTree
 row_lenses [] = []
 row_lenses (row_both a b l ∷ rows) = l ∷ row_lenses rows
 row_lenses (row_left a t ∷ rows) = row_lenses rows
 row_lenses (row_right b t ∷ rows) = row_lenses rows
 
-lens_of_row : (rows : List RowTree) (i : ℕ) → row_lens rows i ≡ slice_get (row_lenses rows) i
+lens_of_row : (rows : List FormRowTree) (i : ℕ) → row_lens rows i ≡ slice_get (row_lenses rows) i
 lens_of_row [] i = refl
 lens_of_row (row_both a b l ∷ rows) zero = refl
 lens_of_row (row_both a b l ∷ rows) (suc i) = lens_of_row rows i
 lens_of_row (row_left a t ∷ rows) i = lens_of_row rows i
 lens_of_row (row_right b t ∷ rows) i = lens_of_row rows i
 
-lenses-append : (rows qs : List RowTree) → row_lenses (rows ++ qs) ≡ row_lenses rows ++ row_lenses qs
+lenses-append : (rows qs : List FormRowTree) → row_lenses (rows ++ qs) ≡ row_lenses rows ++ row_lenses qs
 lenses-append [] qs = refl
 lenses-append (row_both a b l ∷ rows) qs = ap (λ ls. l ∷ ls) (lenses-append rows qs)
 lenses-append (row_left a t ∷ rows) qs = lenses-append rows qs
@@ -109,14 +109,14 @@ append_none (l ∷ ls) = ap (λ x. l ∷ x) (append_none ls)
 pub paired_more : (a b c : List Entry) (rows : List FormRow) (i : ℕ) (r : FormRow) (n m : List ℕ) (l : Form) (ks : List ℕ) (k : ℕ) → i < length rows → r ≡ get_or rows i r → r ≡ Both n m l
     → Going a b ks (lenses_to rows i) → Adds b c (form_tree l) k → Going a c (ks ++ k ∷ []) (lenses_to rows (i + 1))
 paired_more a b c rows i r n m l ks k h is row g add =
-    let tree : row_lenses (row_tree r ∷ []) ≡ form_tree l ∷ [] = ap (λ (q : RowTree). row_lenses (q ∷ [])) (ap row_tree row ∙ row_tree-both n m l) in
+    let tree : row_lenses (row_tree r ∷ []) ≡ form_tree l ∷ [] = ap (λ (q : FormRowTree). row_lenses (q ∷ [])) (ap row_tree row ∙ row_tree-both n m l) in
     let next : lenses_to rows (i + 1) ≡ lenses_to rows i ++ form_tree l ∷ [] = one_more rows i r h is ∙ ap (λ (ls : List FormTree). lenses_to rows i ++ ls) tree in
     rw next (going_on a b c ks (lenses_to rows i) k (form_tree l) g add)
 
 pub left_more : (a b : List Entry) (rows : List FormRow) (i : ℕ) (r : FormRow) (n : List ℕ) (t : Ty) (ks : List ℕ) → i < length rows → r ≡ get_or rows i r → r ≡ OnlyLeft n t
     → Going a b ks (lenses_to rows i) → Going a b ks (lenses_to rows (i + 1))
 left_more a b rows i r n t ks h is row g =
-    let tree : row_lenses (row_tree r ∷ []) ≡ [] = ap (λ (q : RowTree). row_lenses (q ∷ [])) (ap row_tree row ∙ row_tree-left n t) in
+    let tree : row_lenses (row_tree r ∷ []) ≡ [] = ap (λ (q : FormRowTree). row_lenses (q ∷ [])) (ap row_tree row ∙ row_tree-left n t) in
     let next : lenses_to rows (i + 1) ≡ lenses_to rows i =
     one_more rows i r h is ∙ (ap (λ (ls : List FormTree). lenses_to rows i ++ ls) tree ∙ append_none (lenses_to rows i)) in
     rw next g
@@ -124,18 +124,18 @@ left_more a b rows i r n t ks h is row g =
 pub right_more : (a b : List Entry) (rows : List FormRow) (i : ℕ) (r : FormRow) (n : List ℕ) (t : Ty) (ks : List ℕ) → i < length rows → r ≡ get_or rows i r → r ≡ OnlyRight n t
     → Going a b ks (lenses_to rows i) → Going a b ks (lenses_to rows (i + 1))
 right_more a b rows i r n t ks h is row g =
-    let tree : row_lenses (row_tree r ∷ []) ≡ [] = ap (λ (q : RowTree). row_lenses (q ∷ [])) (ap row_tree row ∙ row_tree-right n t) in
+    let tree : row_lenses (row_tree r ∷ []) ≡ [] = ap (λ (q : FormRowTree). row_lenses (q ∷ [])) (ap row_tree row ∙ row_tree-right n t) in
     let next : lenses_to rows (i + 1) ≡ lenses_to rows i =
     one_more rows i r h is ∙ (ap (λ (ls : List FormTree). lenses_to rows i ++ ls) tree ∙ append_none (lenses_to rows i)) in
     rw next g
 
 -- once every row is done
 pub rows_done : (a b : List Entry) (rows : List FormRow) (i : ℕ) (ks : List ℕ) → length rows ≤ i → Going a b ks (lenses_to rows i)
-    → AddsLenses a b (row_lens (row_list (form_rows_of (map row_tree rows)))) ks
+    → AddsLenses a b (row_lens (form_row_list (form_rows_of (map row_tree rows)))) ks
 rows_done a b rows i ks h g =
     let whole : take i rows ≡ rows = take_all i rows h in
-    all_there a b ks (lenses_to rows i) (row_lens (row_list (form_rows_of (map row_tree rows)))) g
-    (λ j. ap (λ (qs : List RowTree). row_lens qs j) (row_list-form_rows_of (map row_tree rows))
+    all_there a b ks (lenses_to rows i) (row_lens (form_row_list (form_rows_of (map row_tree rows)))) g
+    (λ j. ap (λ (qs : List FormRowTree). row_lens qs j) (row_list-form_rows_of (map row_tree rows))
     ∙ (lens_of_row (map row_tree rows) j ∙ ap (λ (rs : List FormRow). slice_get (row_lenses (map row_tree rs)) j) (sym whole)))
 
 -- ---- arms

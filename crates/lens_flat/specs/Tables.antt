@@ -3,7 +3,8 @@
 use Rattle.std.specs.Prelude.{◌≡◌, ℕ, ◌<◌, ◌≤◌, IsTrue, List, [], ◌∷◌, ◌++◌, length, slice_get, slice_index_or, Option}
 use Rattle.std.specs.Prelude.{Some, option_map}
 use Rattle.doc_values.specs.Types.{no_fields, fields_tree}
-use Rattle.lens_forms.specs.Forms.{FormTree, form_then, form_rec, form_alt, form_part, form_inv, row_list, form_tree}
+use Rattle.lens_forms.specs.Forms.{FormTree, form_then, form_rec, form_alt, form_part, form_inv, form_row_list}
+use Rattle.lens_forms.specs.Forms.{form_tree}
 use Rattle.lens_forms.specs.Forms.{rows_tree, arms_tree}
 use Rattle.lens_core.specs.Complements.{comp_tree, comps_tree, missing}
 use Rattle.lens_core.specs.Leaves.{is_leaf}
@@ -51,7 +52,7 @@ pub record AreLenses (forms : ℕ → FormTree) (bound : ℕ) (lens : ℕ → Op
 abbrev pub IsNode : (ℕ → FormTree) → ℕ → Node → Type 0
 IsNode forms n (Leaf form) = IsTrue (is_leaf (form_tree form))
 IsNode forms n (Then first second) = (first < n) × (second < n)
-IsNode forms n (Record rows inside) = AreLenses forms n (row_lens (row_list (rows_tree rows))) inside.items
+IsNode forms n (Record rows inside) = AreLenses forms n (row_lens (form_row_list (rows_tree rows))) inside.items
 IsNode forms n (Alternatives arms starts inside) =
     (comps_tree starts ≡ arm_starts (arms_tree arms)) × AreLenses forms n (arm_lens (arms_tree arms)) inside.items
 IsNode forms n (Held kind inside) = inside < n

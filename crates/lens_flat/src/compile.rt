@@ -1,7 +1,7 @@
 //! Compiling a form to a table of nodes.
 
 ghost use Rattle.std.specs.Prelude.{◌≡◌, length, IfOk};
-ghost use Rattle.lens_forms.specs.Forms.{form_tree, form_rec, form_alt, row_list, rows_tree, arms_tree};
+ghost use Rattle.lens_forms.specs.Forms.{form_tree, form_rec, form_alt, form_row_list, rows_tree, arms_tree};
 ghost use Rattle.lens_branch.specs.AlternativeSteps.{arm_lens};
 ghost use Rattle.lens_branch.specs.RecordSteps.{row_lens};
 ghost use Rattle.lens_flat.specs.Tables.{form_at, node_form, IsNode, AreSound, Adds, Readies, AddsLenses};
@@ -92,7 +92,7 @@ fn row_nodes(
 ) -> Result<Vec<usize>, AllocError>
     requires { AreSound table.old.items }
     ensures { IfOk result (λ inside. AddsLenses table.old.items table.new.items
-        (row_lens (row_list (rows_tree rows.now))) inside.items) }
+        (row_lens (form_row_list (rows_tree rows.now))) inside.items) }
 {
     let mut inside = Vec::new(alloc);
     for row in rows.as_slice() {

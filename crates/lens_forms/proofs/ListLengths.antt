@@ -1,7 +1,7 @@
 -- No list in a type or in a form is longer than the type or the form has parts.
 use Rattle.std.proofs.Common.{◌≤◌, length, arith}
 use Rattle.doc_values.specs.Types.{TyTree, ty_unit, ty_bool, ty_int, ty_text, ty_enum, ty_rec, ty_alt, ty_list, ty_keyed, ty_ordered, FieldTrees, no_fields, more_fields, names_of}
-use Rattle.lens_forms.specs.Forms.{FormTree, form_id, form_bij, form_disc, form_then, form_rec, form_alt, form_each, form_keyed, form_ordered, form_part, form_inv, RowTrees, no_rows, both, only_left, only_right, row_list, ArmTrees, no_arms, more_arms, arm_list}
+use Rattle.lens_forms.specs.Forms.{FormTree, form_id, form_bij, form_disc, form_then, form_rec, form_alt, form_each, form_keyed, form_ordered, form_part, form_inv, RowTrees, no_rows, both, only_left, only_right, form_row_list, ArmTrees, no_arms, more_arms, form_arm_list}
 use Rattle.lens_forms.specs.Measures.{type_parts, fields_parts, form_parts, rows_parts, arms_parts, longest_in_type, longest_in_fields, longest_list, longest_in_rows, longest_in_arms}
 
 -- ---- lists of fields, of rows and of arms
@@ -10,13 +10,13 @@ fields_within : (fs : FieldTrees) → length (names_of fs) ≤ fields_parts fs
 fields_within no_fields = omega arith
 fields_within (more_fields n t fs) = omega (arith, fields_within fs)
 
-rows_within : (rows : RowTrees) → length (row_list rows) ≤ rows_parts rows
+rows_within : (rows : RowTrees) → length (form_row_list rows) ≤ rows_parts rows
 rows_within no_rows = omega arith
 rows_within (both a b l rows) = omega (arith, rows_within rows)
 rows_within (only_left a t rows) = omega (arith, rows_within rows)
 rows_within (only_right b t rows) = omega (arith, rows_within rows)
 
-arms_within : (arms : ArmTrees) → length (arm_list arms) ≤ arms_parts arms
+arms_within : (arms : ArmTrees) → length (form_arm_list arms) ≤ arms_parts arms
 arms_within no_arms = omega arith
 arms_within (more_arms a b l arms) = omega (arith, arms_within arms)
 

@@ -129,39 +129,39 @@ abbrev mutual
 -- ---- how contracts see a `Form`
 
 -- one row, its form already seen as its tree
-pub data RowTree : Type 0 where
-  row_both : List ℕ → List ℕ → FormTree → RowTree
-  row_left : List ℕ → TyTree → RowTree
-  row_right : List ℕ → TyTree → RowTree
+pub data FormRowTree : Type 0 where
+  row_both : List ℕ → List ℕ → FormTree → FormRowTree
+  row_left : List ℕ → TyTree → FormRowTree
+  row_right : List ℕ → TyTree → FormRowTree
 
 -- a row before others
-abbrev pub with_row : RowTree → RowTrees → RowTrees
-with_row (row_both a b l) rows = both a b l rows
-with_row (row_left a t) rows = only_left a t rows
-with_row (row_right b t) rows = only_right b t rows
+abbrev pub with_form_row : FormRowTree → RowTrees → RowTrees
+with_form_row (row_both a b l) rows = both a b l rows
+with_form_row (row_left a t) rows = only_left a t rows
+with_form_row (row_right b t) rows = only_right b t rows
 
 -- a list of rows as rows, and back
-abbrev pub form_rows_of : List RowTree → RowTrees
+abbrev pub form_rows_of : List FormRowTree → RowTrees
 form_rows_of [] = no_rows
-form_rows_of (r ∷ rows) = with_row r (form_rows_of rows)
+form_rows_of (r ∷ rows) = with_form_row r (form_rows_of rows)
 
-abbrev pub row_list : RowTrees → List RowTree
-row_list no_rows = []
-row_list (both a b l rows) = row_both a b l ∷ row_list rows
-row_list (only_left a t rows) = row_left a t ∷ row_list rows
-row_list (only_right b t rows) = row_right b t ∷ row_list rows
+abbrev pub form_row_list : RowTrees → List FormRowTree
+form_row_list no_rows = []
+form_row_list (both a b l rows) = row_both a b l ∷ form_row_list rows
+form_row_list (only_left a t rows) = row_left a t ∷ form_row_list rows
+form_row_list (only_right b t rows) = row_right b t ∷ form_row_list rows
 
 -- a list of two tags with a form as arms, and back
 abbrev pub form_arms_of : List (List ℕ × List ℕ × FormTree) → ArmTrees
 form_arms_of [] = no_arms
 form_arms_of (a ∷ arms) = more_arms a.0 a.1 a.2 (form_arms_of arms)
 
-abbrev pub arm_list : ArmTrees → List (List ℕ × List ℕ × FormTree)
-arm_list no_arms = []
-arm_list (more_arms a b l arms) = (a, b, l) ∷ arm_list arms
+abbrev pub form_arm_list : ArmTrees → List (List ℕ × List ℕ × FormTree)
+form_arm_list no_arms = []
+form_arm_list (more_arms a b l arms) = (a, b, l) ∷ form_arm_list arms
 
 -- one level of a `Form`, a `FormRow`, a `FormRows` and a `FormArms`, each form inside already seen as its tree
-abbrev pub form_step : Form-F FormTree RowTree ArmTrees RowTrees → FormTree
+abbrev pub form_step : Form-F FormTree FormRowTree ArmTrees RowTrees → FormTree
 form_step (Form-F.Id t) = form_id (ty_tree t)
 form_step (Form-F.Bij ps n) = form_bij ps n
 form_step (Form-F.Disc t u) = form_disc (ty_tree t) (ty_tree u)
@@ -174,29 +174,29 @@ form_step (Form-F.Tree l) = form_ordered l.value
 form_step (Form-F.Part fs) = form_part (fields_tree fs)
 form_step (Form-F.Inv l) = form_inv l.value
 
-abbrev pub row_step : FormRow-F FormTree RowTree ArmTrees RowTrees → RowTree
+abbrev pub row_step : FormRow-F FormTree FormRowTree ArmTrees RowTrees → FormRowTree
 row_step (FormRow-F.Both a b l) = row_both a b l
 row_step (FormRow-F.OnlyLeft a t) = row_left a (ty_tree t)
 row_step (FormRow-F.OnlyRight b t) = row_right b (ty_tree t)
 
-abbrev pub rows_step : FormRows-F FormTree RowTree ArmTrees RowTrees → RowTrees
+abbrev pub rows_step : FormRows-F FormTree FormRowTree ArmTrees RowTrees → RowTrees
 rows_step rows = form_rows_of rows.items.items
 
-abbrev pub arms_step : FormArms-F FormTree RowTree ArmTrees RowTrees → ArmTrees
+abbrev pub arms_step : FormArms-F FormTree FormRowTree ArmTrees RowTrees → ArmTrees
 arms_step arms = form_arms_of arms.items.items
 
 -- the tree of a `Form`, the tree of a `FormRow`, the trees of a `FormRows` and of a `FormArms`
 abbrev pub form_tree : Form → FormTree
-form_tree = fold-Form FormTree RowTree ArmTrees RowTrees form_step row_step arms_step rows_step
+form_tree = fold-Form FormTree FormRowTree ArmTrees RowTrees form_step row_step arms_step rows_step
 
-abbrev pub row_tree : FormRow → RowTree
-row_tree = fold-FormRow FormTree RowTree ArmTrees RowTrees form_step row_step arms_step rows_step
+abbrev pub row_tree : FormRow → FormRowTree
+row_tree = fold-FormRow FormTree FormRowTree ArmTrees RowTrees form_step row_step arms_step rows_step
 
 abbrev pub rows_tree : FormRows → RowTrees
-rows_tree = fold-FormRows FormTree RowTree ArmTrees RowTrees form_step row_step arms_step rows_step
+rows_tree = fold-FormRows FormTree FormRowTree ArmTrees RowTrees form_step row_step arms_step rows_step
 
 abbrev pub arms_tree : FormArms → ArmTrees
-arms_tree = fold-FormArms FormTree RowTree ArmTrees RowTrees form_step row_step arms_step rows_step
+arms_tree = fold-FormArms FormTree FormRowTree ArmTrees RowTrees form_step row_step arms_step rows_step
 
 -- the two tags of an arm with the tree of its form
 abbrev pub arm_tree : List ℕ × List ℕ × Form → List ℕ × List ℕ × FormTree

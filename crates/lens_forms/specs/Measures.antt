@@ -6,7 +6,7 @@ use Rattle.doc_values.specs.Types.{TyTree, ty_unit, ty_bool, ty_int, ty_text, ty
 use Rattle.doc_values.specs.Types.{ty_keyed, ty_ordered, FieldTrees, no_fields, more_fields, names_of}
 use Rattle.lens_forms.specs.Forms.{FormTree, form_id, form_bij, form_disc, form_then, form_rec, form_alt, form_each}
 use Rattle.lens_forms.specs.Forms.{form_keyed, form_ordered, form_part, form_inv, RowTrees, no_rows, both, only_left}
-use Rattle.lens_forms.specs.Forms.{only_right, row_list, ArmTrees, no_arms, more_arms, arm_list}
+use Rattle.lens_forms.specs.Forms.{only_right, form_row_list, ArmTrees, no_arms, more_arms, form_arm_list}
 
 -- the counted parts of a type: one for each constructor, and one for each field, tag and member; initial values add
 -- nothing
@@ -103,8 +103,8 @@ abbrev mutual
   longest_list (form_bij ps n) = length ps
   longest_list (form_disc t u) = max (longest_in_type t) (longest_in_type u)
   longest_list (form_then l k) = max (longest_list l) (longest_list k)
-  longest_list (form_rec rows) = max (length (row_list rows)) (longest_in_rows rows)
-  longest_list (form_alt arms) = max (length (arm_list arms)) (longest_in_arms arms)
+  longest_list (form_rec rows) = max (length (form_row_list rows)) (longest_in_rows rows)
+  longest_list (form_alt arms) = max (length (form_arm_list arms)) (longest_in_arms arms)
   longest_list (form_each l) = longest_list l
   longest_list (form_keyed l) = longest_list l
   longest_list (form_ordered l) = longest_list l

@@ -124,9 +124,9 @@ impl Twin for Form {
 }
 
 impl Twin for FormRow {
-    ghost use Rattle.lens_forms.specs.Forms.{RowTree, row_tree};
+    ghost use Rattle.lens_forms.specs.Forms.{FormRowTree, row_tree};
 
-    ghost Meaning = { RowTree };
+    ghost Meaning = { FormRowTree };
 
     ghost meaning = { row_tree };
 

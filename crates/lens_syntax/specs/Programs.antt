@@ -78,22 +78,22 @@ bounded text = if nat_le (length text) MOST_PROGRAM_BYTES then unbounded text el
 -- ---- the faults of the code
 
 -- the cause of a fault; running out of memory says nothing of the text
-abbrev pub cause_of : ProgramFault → Option ProgramCause
-cause_of ProgramTooLong = Some too_long
-cause_of (NotAProgram at) = Some (not_a_program at)
-cause_of (UnknownName at) = Some (unknown_name at)
-cause_of (RepeatedName at) = Some (repeated_name at)
-cause_of NoMemory = None
+abbrev pub program_fault_cause : ProgramFault → Option ProgramCause
+program_fault_cause ProgramTooLong = Some too_long
+program_fault_cause (NotAProgram at) = Some (not_a_program at)
+program_fault_cause (UnknownName at) = Some (unknown_name at)
+program_fault_cause (RepeatedName at) = Some (repeated_name at)
+program_fault_cause NoMemory = None
 
 -- the wanted result is this cause, where there is one
-abbrev pub IsRefusal : Option ProgramCause → Result ProgramTree ProgramCause → Type 0
-IsRefusal None wanted = Unit {0}
-IsRefusal (Some cause) wanted = wanted ≡ Err cause
+abbrev pub IsTextRefusal : Option ProgramCause → Result ProgramTree ProgramCause → Type 0
+IsTextRefusal None wanted = Unit {0}
+IsTextRefusal (Some cause) wanted = wanted ≡ Err cause
 
 -- what the code returns, as it is viewed, is the wanted result
 abbrev pub Gives : {X : Type 0} → (X → ProgramTree) → Result X ProgramFault → Result ProgramTree ProgramCause → Type 0
 Gives view (Ok x) wanted = wanted ≡ Ok (view x)
-Gives view (Err fault) wanted = IsRefusal (cause_of fault) wanted
+Gives view (Err fault) wanted = IsTextRefusal (program_fault_cause fault) wanted
 
 -- what a cause says of a text, where there is one
 abbrev pub TellsCause : List ℕ → Option ProgramCause → Type 0
@@ -103,4 +103,4 @@ TellsCause text (Some cause) = Tells text (Err cause)
 -- what the code returns, as it is viewed, says of a text
 abbrev pub TellsResult : {X : Type 0} → (X → ProgramTree) → List ℕ → Result X ProgramFault → Type 0
 TellsResult view text (Ok x) = Tells text (Ok (view x))
-TellsResult view text (Err fault) = TellsCause text (cause_of fault)
+TellsResult view text (Err fault) = TellsCause text (program_fault_cause fault)

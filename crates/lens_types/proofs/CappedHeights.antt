@@ -5,7 +5,7 @@ use Rattle.texts.specs.Keys.{is_before}
 use Rattle.doc_values.specs.Types.{TyTree, ty_rec, FieldTrees, no_fields, more_fields, height, highest}
 use Rattle.lens_forms.specs.Forms.{ArmTrees, no_arms, more_arms, insert_field, sorted}
 use Rattle.lens_forms.specs.Measures.{form_height, highest_arm}
-use Rattle.lens_types.specs.Earlier.{alternatives_type, alternatives, partition}
+use Rattle.lens_types.specs.Earlier.{alternatives_type, alternatives_form, partition}
 use Rattle.lens_types.specs.Heights.{capped}
 
 pub capped-next : (a : ℕ) → capped (capped a + 1) ≡ capped (a + 1)
@@ -38,7 +38,7 @@ pub height-alternatives_type : (fs : FieldTrees) → height (alternatives_type f
 height-alternatives_type no_fields = refl
 height-alternatives_type (more_fields n t fs) = refl
 
-pub height-alternatives : (arms : ArmTrees) → form_height (alternatives arms) ≡ highest_arm arms + 1
+pub height-alternatives : (arms : ArmTrees) → form_height (alternatives_form arms) ≡ highest_arm arms + 1
 height-alternatives no_arms = refl
 height-alternatives (more_arms a b l arms) = refl
 

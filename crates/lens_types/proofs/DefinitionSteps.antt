@@ -95,7 +95,7 @@ defined-has (d ∷ ds) name =
 
 -- the name of the next definition is new
 pub next_is_new : (ds : Definitions) (defs : List (List ℕ × Term.DefTree)) (i : ℕ) (n : List ℕ) (d : Term.DefTree) (main : Term.LensTree) (whole : Option Failure) (all : Definitions)
-    → Term.are_distinct defs ≡ true → option_map (λ x. x.0) (slice_get defs i) ≡ Some n → option_map (λ x. x.1) (slice_get defs i) ≡ Some d
+    → Term.are_defined_once defs ≡ true → option_map (λ x. x.0) (slice_get defs i) ≡ Some n → option_map (λ x. x.1) (slice_get defs i) ≡ Some d
     → IsAfter ds defs i main whole all → known ds n ≡ None
 next_is_new ds defs i n d main whole all distinct name def h =
     not_known ds n

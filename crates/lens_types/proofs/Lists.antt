@@ -9,8 +9,8 @@ use Rattle.program_terms.specs.Views as View
 use Rattle.program_terms.specs.declared.types.TyExpr.{TyExpr}
 use Rattle.program_terms.specs.declared.lens.Lens.{Lens}
 use Rattle.program_terms.specs.declared.lens.Row.{Row}
-use Rattle.lens_forms.specs.Forms.{form_alt, RowTrees, no_rows, both, only_left, only_right, form_rows_of, row_list, row_tree, ArmTrees, no_arms, more_arms, form_arms_of, arm_list, arms_tree, arm_tree, form_tree, lists_of}
-use Rattle.lens_types.specs.Earlier.{Definitions, alternatives, expanded_fields, expanded_rows, expanded_arms}
+use Rattle.lens_forms.specs.Forms.{form_alt, RowTrees, no_rows, both, only_left, only_right, form_rows_of, form_row_list, row_tree, ArmTrees, no_arms, more_arms, form_arms_of, form_arm_list, arms_tree, arm_tree, form_tree, lists_of}
+use Rattle.lens_types.specs.Earlier.{Definitions, alternatives_form, expanded_fields, expanded_rows, expanded_arms}
 use Rattle.lens_types.specs.SideTypes.{fields_on, tags_on}
 use Rattle.texts.specs.declared.side.Side.{Side}
 use Rattle.lens_forms.specs.declared.form.Form.{Form, the_lemmas as form_lemmas}
@@ -20,13 +20,13 @@ use Rattle.lens_forms.specs.declared.form.FormArms.{FormArms}
 
 -- ---- trees and lists, there and back
 
-pub rows-there_and_back : (rows : RowTrees) → form_rows_of (row_list rows) ≡ rows
+pub rows-there_and_back : (rows : RowTrees) → form_rows_of (form_row_list rows) ≡ rows
 rows-there_and_back no_rows = refl
 rows-there_and_back (both a b l rows) = ap (both a b l) (rows-there_and_back rows)
 rows-there_and_back (only_left a t rows) = ap (only_left a t) (rows-there_and_back rows)
 rows-there_and_back (only_right b t rows) = ap (only_right b t) (rows-there_and_back rows)
 
-pub arms-there_and_back : (arms : ArmTrees) → form_arms_of (arm_list arms) ≡ arms
+pub arms-there_and_back : (arms : ArmTrees) → form_arms_of (form_arm_list arms) ≡ arms
 arms-there_and_back no_arms = refl
 arms-there_and_back (more_arms a b l arms) = ap (more_arms a b l) (arms-there_and_back arms)
 
@@ -35,7 +35,7 @@ form_tree-alt arms = search (rules, form_lemmas)
 
 -- arms of which there is one are alternatives
 pub some_arms : (arms : List (List ℕ × List ℕ × Form)) → nat_eq (length arms) 0 ≡ false
-    → form_alt (form_arms_of (map arm_tree arms)) ≡ alternatives (form_arms_of (map arm_tree arms))
+    → form_alt (form_arms_of (map arm_tree arms)) ≡ alternatives_form (form_arms_of (map arm_tree arms))
 some_arms [] h = cc
 some_arms (a ∷ arms) h = refl
 
@@ -52,12 +52,12 @@ pub fields_done : (ds : Definitions) (fs : List (List ℕ × TyExpr)) (out : Lis
 fields_done ds fs out i h e = ap ty_fields (rw (drop_all i fs h, append-nil) at e) ∙ fields_of-field_list _
 
 pub rows_done : (ds : Definitions) (rows : List Row) (out : List FormRow) (i : ℕ) → length rows ≤ i
-    → map row_tree out ++ row_list (expanded_rows ds (Term.term_rows_of (map View.row_tree (drop i rows)))) ≡ row_list (expanded_rows ds (Term.term_rows_of (map View.row_tree rows)))
+    → map row_tree out ++ form_row_list (expanded_rows ds (Term.term_rows_of (map View.row_tree (drop i rows)))) ≡ form_row_list (expanded_rows ds (Term.term_rows_of (map View.row_tree rows)))
     → form_rows_of (map row_tree out) ≡ expanded_rows ds (Term.term_rows_of (map View.row_tree rows))
 rows_done ds rows out i h e = ap form_rows_of (rw (drop_all i rows h, append-nil) at e) ∙ rows-there_and_back _
 
 pub arms_done : (ds : Definitions) (arms : List (List ℕ × List ℕ × Lens)) (out : List (List ℕ × List ℕ × Form)) (i : ℕ) → length arms ≤ i
-    → map arm_tree out ++ arm_list (expanded_arms ds (Term.term_arms_of (map View.arm_tree (drop i arms)))) ≡ arm_list (expanded_arms ds (Term.term_arms_of (map View.arm_tree arms)))
+    → map arm_tree out ++ form_arm_list (expanded_arms ds (Term.term_arms_of (map View.arm_tree (drop i arms)))) ≡ form_arm_list (expanded_arms ds (Term.term_arms_of (map View.arm_tree arms)))
     → form_arms_of (map arm_tree out) ≡ expanded_arms ds (Term.term_arms_of (map View.arm_tree arms))
 arms_done ds arms out i h e = ap form_arms_of (rw (drop_all i arms h, append-nil) at e) ∙ arms-there_and_back _
 

@@ -12,7 +12,7 @@ use Rattle.program_terms.specs.declared.types.TyExpr.{TyExpr}
 use Rattle.program_terms.specs.declared.lens.Lens.{Lens}
 use Rattle.program_terms.specs.declared.lens.Row.{Row}
 use Rattle.lens_forms.specs.Forms.{FormTree, form_each, form_rec, RowTrees, ArmTrees, no_arms, more_arms, left_type, right_type, left_fields, right_fields, left_tags, right_tags, sorted, lists_of}
-use Rattle.lens_types.specs.Earlier.{Definitions, expanded_type, expanded_fields, expanded_form, expanded_rows, alternatives, partition}
+use Rattle.lens_types.specs.Earlier.{Definitions, expanded_type, expanded_fields, expanded_form, expanded_rows, alternatives_form, partition}
 use Rattle.lens_types.specs.Checking.{Failure, rows_failure}
 use Rattle.lens_types.specs.Heights.{capped, HasHeights, HasRowHeights, HasArmHeights}
 use Rattle.lens_types.specs.Nodes.{HasFieldHeights, row_failure}
@@ -33,16 +33,16 @@ pub record_heights : (rows : RowTrees) (part whole : SideHeights) → HasRowHeig
 record_heights rows part whole h l r =
     (one_more whole.left part.left (highest (left_fields rows)) l h.0, one_more whole.right part.right (highest (right_fields rows)) r h.1)
 
-left-alternatives : (arms : ArmTrees) → height (left_type (alternatives arms)) ≡ highest (left_tags arms) + 1
+left-alternatives : (arms : ArmTrees) → height (left_type (alternatives_form arms)) ≡ highest (left_tags arms) + 1
 left-alternatives no_arms = refl
 left-alternatives (more_arms a b l arms) = refl
 
-right-alternatives : (arms : ArmTrees) → height (right_type (alternatives arms)) ≡ highest (right_tags arms) + 1
+right-alternatives : (arms : ArmTrees) → height (right_type (alternatives_form arms)) ≡ highest (right_tags arms) + 1
 right-alternatives no_arms = refl
 right-alternatives (more_arms a b l arms) = refl
 
 pub alternatives_heights : (arms : ArmTrees) (part whole : SideHeights) → HasArmHeights arms part → whole.left ≡ capped (part.left + 1) → whole.right ≡ capped (part.right + 1)
-    → HasHeights (alternatives arms) whole
+    → HasHeights (alternatives_form arms) whole
 alternatives_heights arms part whole h l r = (
   one_more whole.left part.left (highest (left_tags arms)) l h.0 ∙ ap capped (sym (left-alternatives arms)),
   one_more whole.right part.right (highest (right_tags arms)) r h.1 ∙ ap capped (sym (right-alternatives arms)),

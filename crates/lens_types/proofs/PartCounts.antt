@@ -9,7 +9,7 @@ use Rattle.lens_forms.specs.Forms.{ArmTrees, no_arms, more_arms, insert_field, s
 use Rattle.lens_forms.specs.Measures.{type_parts, fields_parts, form_parts, rows_parts, arms_parts}
 use Rattle.lens_forms.specs.declared.limits.TheConstants.{MOST_PARTS}
 use Rattle.lens_types.specs.Checking.{too_large}
-use Rattle.lens_types.specs.Earlier.{Definitions, expanded_type, expanded_fields, expanded_form, expanded_rows, expanded_arms, alternatives_type, alternatives, partition}
+use Rattle.lens_types.specs.Earlier.{Definitions, expanded_type, expanded_fields, expanded_form, expanded_rows, expanded_arms, alternatives_type, alternatives_form, partition}
 use Rattle.lens_types.specs.PartRooms.{IsCountOf, room_after, type_room, fields_room, lens_room, rows_room, arms_room}
 
 -- ---- room after two counts
@@ -33,7 +33,7 @@ parts-alternatives_type : (fs : FieldTrees) → type_parts (alternatives_type fs
 parts-alternatives_type no_fields = refl
 parts-alternatives_type (more_fields n t fs) = omega arith
 
-parts-alternatives : (arms : ArmTrees) → form_parts (alternatives arms) ≡ 1 + arms_parts arms
+parts-alternatives : (arms : ArmTrees) → form_parts (alternatives_form arms) ≡ 1 + arms_parts arms
 parts-alternatives no_arms = refl
 parts-alternatives (more_arms a b l arms) = omega arith
 
@@ -109,7 +109,7 @@ mutual
   lens_room-parts ds (Term.rec_lens rows) n =
       to_room (λ left. rows_room ds rows left) 1 (rows_parts (expanded_rows ds rows)) (rows_parts (expanded_rows ds rows) + 1) n (λ m. rows_room-parts ds rows m) (omega arith)
   lens_room-parts ds (Term.alt_lens arms) n =
-      to_room (λ left. arms_room ds arms left) 1 (arms_parts (expanded_arms ds arms)) (form_parts (alternatives (expanded_arms ds arms))) n
+      to_room (λ left. arms_room ds arms left) 1 (arms_parts (expanded_arms ds arms)) (form_parts (alternatives_form (expanded_arms ds arms))) n
       (λ m. arms_room-parts ds arms m) (sym (parts-alternatives (expanded_arms ds arms)))
   lens_room-parts ds (Term.each_of l) n = one_more ds l n (λ m. lens_room-parts ds l m)
   lens_room-parts ds (Term.keyed_each l) n = one_more ds l n (λ m. lens_room-parts ds l m)

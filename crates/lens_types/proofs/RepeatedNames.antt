@@ -14,7 +14,7 @@ use Rattle.program_terms.specs.Terms as Term
 use Rattle.lens_forms.specs.Forms.{lefts, rights}
 use Rattle.lens_forms.specs.Typing.{left_names, right_names, left_arms, right_arms}
 use Rattle.lens_types.specs.Earlier.{Definitions, expanded_fields, expanded_rows, expanded_arms}
-use Rattle.lens_types.specs.Repeats.{SidedName, sided, is_same_side, is_same_name, is_among, repeat_after, first_repeat, member_names, field_names, pair_names, row_names, arm_names}
+use Rattle.lens_types.specs.Repeats.{SidedName, sided, is_same_side, is_same_name, is_among, repeat_after, first_repeat, sided_members, field_names, pair_names, row_names, arm_names}
 use Rattle.texts.specs.declared.side.Side.{Side}
 use Rattle.texts.specs.declared.side.Side.TheVariants.{Left, Right}
 use Rattle.texts.proofs.Tests.{or_second}
@@ -99,7 +99,7 @@ sides_distinct ns e names same h = subst (λ (xs : List (List ℕ)). are_distinc
 
 -- ---- the names of each side, list by list
 
-pub on-members : (ms : List (List ℕ)) → on Left (member_names ms) ≡ ms
+pub on-members : (ms : List (List ℕ)) → on Left (sided_members ms) ≡ ms
 on-members [] = refl
 on-members (m ∷ ms) = ap (λ xs. m ∷ xs) (on-members ms)
 
@@ -137,8 +137,8 @@ on-right_arms ds (Term.more_arms a b l arms) = ap (λ xs. b ∷ xs) (on-right_ar
 
 -- ---- so they are distinct
 
-pub members_distinct : (ms : List (List ℕ)) → first_repeat (member_names ms) ≡ None → are_distinct ms ≡ true
-members_distinct ms h = sides_distinct (member_names ms) Left ms (on-members ms) h
+pub members_distinct : (ms : List (List ℕ)) → first_repeat (sided_members ms) ≡ None → are_distinct ms ≡ true
+members_distinct ms h = sides_distinct (sided_members ms) Left ms (on-members ms) h
 
 pub fields_distinct : (ds : Definitions) (fs : Term.FieldTrees) → first_repeat (field_names fs) ≡ None → are_distinct (names_of (expanded_fields ds fs)) ≡ true
 fields_distinct ds fs h = sides_distinct (field_names fs) Left _ (on-fields ds fs) h

@@ -10,9 +10,9 @@ use Rattle.lens_forms.specs.Forms.{FormTree, ArmTrees, no_arms, more_arms, form_
 use Rattle.lens_forms.specs.Typing.{is_typed, are_typed_rows, are_typed_arms, left_arms, right_arms}
 use Rattle.lens_forms.specs.Measures.{form_parts, form_height}
 use Rattle.lens_types.specs.Sound.{is_sound}
-use Rattle.lens_types.specs.Earlier.{KnownTree, known_type, known_lens, Definitions, known, type_of_known, form_of_known, type_named, form_named, alternatives_type, alternatives, partition, expanded_type, expanded_fields, expanded_form, expanded_rows, expanded_arms, known_of}
+use Rattle.lens_types.specs.Earlier.{KnownTree, known_type, known_lens, Definitions, known, type_of_known, form_of_known, type_named, form_named, alternatives_type, alternatives_form, partition, expanded_type, expanded_fields, expanded_form, expanded_rows, expanded_arms, known_of}
 use Rattle.lens_types.specs.Checking.{Failure, repeated_field, repeated_tag, repeated_member, not_a_member, too_large, too_deep, value_failure, enum_failure, pairs_failure, type_failure, fields_failure, lens_failure, rows_failure, arms_failure, middle_failure, sides_failure, written_height, size_failure, height_failure, def_failure}
-use Rattle.lens_types.specs.Repeats.{first_repeat, member_names, field_names, pair_names, row_names, arm_names}
+use Rattle.lens_types.specs.Repeats.{first_repeat, sided_members, field_names, pair_names, row_names, arm_names}
 use Rattle.lens_types.proofs.RepeatedNames.{members_distinct, fields_distinct, lefts_distinct, rights_distinct, left_names_distinct, right_names_distinct, left_arms_distinct, right_arms_distinct}
 use Rattle.lens_forms.proofs.SortedFields.{sorted-rising, sorted-well_formed}
 use Rattle.lens_forms.specs.declared.limits.TheConstants.{GREATEST_HEIGHT, MOST_PARTS}
@@ -80,9 +80,9 @@ is_member v ms h = none_if (has_name v ms) (not_a_member v) h
 
 enum_formed : (ms : List (List ℕ)) (v : List ℕ) → enum_failure ms v ≡ None → (are_choices ms && has_name v ms) ≡ true
 enum_formed ms v h =
-    let none = none_both (option_map repeated_member (first_repeat (member_names ms))) (value_failure v ms) h in
+    let none = none_both (option_map repeated_member (first_repeat (sided_members ms))) (value_failure v ms) h in
     let member = is_member v ms none.1 in
-    both_true _ _ (some_choices v ms (members_distinct ms (none_map repeated_member (first_repeat (member_names ms)) none.0)) member) member
+    both_true _ _ (some_choices v ms (members_distinct ms (none_map repeated_member (first_repeat (sided_members ms)) none.0)) member) member
 
 alternatives_formed : (fs : FieldTrees) → are_distinct (names_of fs) ≡ true → are_well_formed fs ≡ true → is_well_formed (alternatives_type fs) ≡ true
 alternatives_formed no_fields h r = refl
@@ -129,7 +129,7 @@ bijection_typed ps v h =
     (both_true _ _ (right_choices v ps member (rights_distinct ps distinct)) member)
 
 alternatives_typed : (arms : ArmTrees) → are_typed_arms arms ≡ true → are_distinct (left_arms arms) ≡ true → are_distinct (right_arms arms) ≡ true
-    → is_typed (alternatives arms) ≡ true
+    → is_typed (alternatives_form arms) ≡ true
 alternatives_typed no_arms h l r = refl
 alternatives_typed (more_arms a b f arms) h l r = both_true _ _ h (both_true _ _ l r)
 
@@ -204,7 +204,7 @@ lens_low ds s (Term.then_of l k) h =
 lens_low ds s (Term.rec_lens rows) h =
     last_low (option_map repeated_field (first_repeat (row_names rows))) (expanded_form ds (Term.rec_lens rows)) (none_both (rows_failure ds rows) _ h).1
 lens_low ds s (Term.alt_lens arms) h =
-    last_low (option_map repeated_tag (first_repeat (arm_names arms))) (alternatives (expanded_arms ds arms)) (none_both (arms_failure ds arms) _ h).1
+    last_low (option_map repeated_tag (first_repeat (arm_names arms))) (alternatives_form (expanded_arms ds arms)) (none_both (arms_failure ds arms) _ h).1
 lens_low ds s (Term.each_of l) h = last_low (lens_failure ds l) (expanded_form ds (Term.each_of l)) h
 lens_low ds s (Term.keyed_each l) h = last_low (lens_failure ds l) (expanded_form ds (Term.keyed_each l)) h
 lens_low ds s (Term.tree_each l) h = last_low (lens_failure ds l) (expanded_form ds (Term.tree_each l)) h

@@ -9,7 +9,7 @@ use Rattle.lens_forms.specs.Forms.{FormTree, lefts, left_type, right_type}
 use Rattle.lens_types.specs.Earlier.{Definitions, expanded_type, expanded_fields, expanded_form, known_of}
 use Rattle.lens_forms.specs.Measures.{type_parts, form_parts, form_height}
 use Rattle.lens_forms.specs.declared.limits.TheConstants.{GREATEST_HEIGHT, MOST_PARTS}
-use Rattle.lens_types.specs.Repeats.{first_repeat, member_names, field_names, pair_names, row_names, arm_names}
+use Rattle.lens_types.specs.Repeats.{first_repeat, sided_members, field_names, pair_names, row_names, arm_names}
 
 -- why a program is refused
 pub data Failure : Type 0 where
@@ -28,7 +28,7 @@ abbrev pub value_failure : List ℕ → List (List ℕ) → Option Failure
 value_failure v ms = if has_name v ms then None else Some (not_a_member v)
 
 abbrev pub enum_failure : List (List ℕ) → List ℕ → Option Failure
-enum_failure ms v = option_or (option_map repeated_member (first_repeat (member_names ms))) (value_failure v ms)
+enum_failure ms v = option_or (option_map repeated_member (first_repeat (sided_members ms))) (value_failure v ms)
 
 -- the members of a bijection are distinct on each side, and its initial value is a left one
 abbrev pub pairs_failure : List (List ℕ × List ℕ) → List ℕ → Option Failure

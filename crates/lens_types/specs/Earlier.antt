@@ -43,9 +43,9 @@ abbrev pub alternatives_type : FieldTrees → TyTree
 alternatives_type no_fields = ty_rec no_fields
 alternatives_type (more_fields n t fs) = ty_alt (more_fields n t fs)
 
-abbrev pub alternatives : ArmTrees → FormTree
-alternatives no_arms = form_rec no_rows
-alternatives (more_arms a b l arms) = form_alt (more_arms a b l arms)
+abbrev pub alternatives_form : ArmTrees → FormTree
+alternatives_form no_arms = form_rec no_rows
+alternatives_form (more_arms a b l arms) = form_alt (more_arms a b l arms)
 
 abbrev pub partition : FieldTrees → FormTree
 partition no_fields = form_rec no_rows
@@ -79,7 +79,7 @@ abbrev mutual
   expanded_form ds (Term.disc_of t u) = form_disc (expanded_type ds t) (expanded_type ds u)
   expanded_form ds (Term.then_of l k) = form_then (expanded_form ds l) (expanded_form ds k)
   expanded_form ds (Term.rec_lens rows) = form_rec (expanded_rows ds rows)
-  expanded_form ds (Term.alt_lens arms) = alternatives (expanded_arms ds arms)
+  expanded_form ds (Term.alt_lens arms) = alternatives_form (expanded_arms ds arms)
   expanded_form ds (Term.each_of l) = form_each (expanded_form ds l)
   expanded_form ds (Term.keyed_each l) = form_keyed (expanded_form ds l)
   expanded_form ds (Term.tree_each l) = form_ordered (expanded_form ds l)

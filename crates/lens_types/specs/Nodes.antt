@@ -3,7 +3,7 @@ use Rattle.std.specs.Prelude.{◌≡◌, ℕ, List, Option, None, Result, MatchR
 use Rattle.std.specs.Option.{option_or}
 use Rattle.doc_values.specs.Types.{height}
 use Rattle.program_terms.specs.Terms as Term
-use Rattle.lens_forms.specs.Forms.{FormTree, form_bij, RowTree, row_both, row_left, row_right}
+use Rattle.lens_forms.specs.Forms.{FormTree, form_bij, FormRowTree, row_both, row_left, row_right}
 use Rattle.lens_types.specs.Earlier.{Definitions, expanded_type, expanded_form}
 use Rattle.lens_types.specs.Checking.{Failure, pairs_failure, type_failure, lens_failure, sides_failure}
 use Rattle.lens_types.specs.Faults.{IsFaultOf}
@@ -36,7 +36,7 @@ IsRowChecked ds row r =
     (λ fault. IsFaultOf (row_failure ds row) fault)
 
 -- one row with its names expanded
-abbrev pub expanded_row : Definitions → Term.RowTree → RowTree
+abbrev pub expanded_row : Definitions → Term.RowTree → FormRowTree
 expanded_row ds (Term.row_both a b l) = row_both a b (expanded_form ds l)
 expanded_row ds (Term.row_left a t) = row_left a (expanded_type ds t)
 expanded_row ds (Term.row_right b t) = row_right b (expanded_type ds t)

@@ -33,9 +33,9 @@ abbrev pub first_repeat : List SidedName → Option (List ℕ)
 first_repeat ns = repeat_after [] ns
 
 -- the members of an enum, the names of fields and the tags of alternatives stand on one side
-abbrev pub member_names : List (List ℕ) → List SidedName
-member_names [] = []
-member_names (m ∷ ms) = (Left, m) ∷ member_names ms
+abbrev pub sided_members : List (List ℕ) → List SidedName
+sided_members [] = []
+sided_members (m ∷ ms) = (Left, m) ∷ sided_members ms
 
 abbrev pub field_names : Term.FieldTrees → List SidedName
 field_names Term.no_fields = []

@@ -11,7 +11,7 @@ ghost use Rattle.program_terms.specs.Views.{type_tree, fields_tree, lens_tree, r
 ghost use Rattle.program_terms.specs.Views.{rows_tree as lens_rows, arms_tree as lens_arms};
 ghost use Rattle.lens_forms.specs.Forms.{form_tree, form_rec, no_rows, row_tree, rows_tree, arms_tree, sorted};
 ghost use Rattle.lens_types.specs.Earlier.{expanded_type, expanded_fields, expanded_form, expanded_rows, expanded_arms};
-ghost use Rattle.lens_types.specs.Earlier.{alternatives_type, alternatives, partition};
+ghost use Rattle.lens_types.specs.Earlier.{alternatives_type, alternatives_form, partition};
 ghost use Rattle.lens_types.specs.Entries.{earlier_tree};
 ghost use Rattle.lens_types.specs.Nodes.{expanded_row};
 
@@ -245,7 +245,7 @@ fn expanded_arms(
 
 // Alternatives; those of nothing are the record of nothing.
 fn alternatives(alloc: Global, arms: FormArms) -> Form
-    ensures { form_tree result ≡ alternatives (arms_tree arms) }
+    ensures { form_tree result ≡ alternatives_form (arms_tree arms) }
 {
     if arms.as_slice().is_empty() {
         empty_record(alloc)

@@ -9,7 +9,7 @@ ghost use Rattle.program_terms.specs.Terms.{id_of, disc_of, then_of, part_of};
 ghost use Rattle.program_terms.specs.Views.{lens_tree, rows_tree, row_tree, arms_tree, fields_tree, type_tree};
 ghost use Rattle.lens_types.specs.Checking.{lens_failure, rows_failure, arms_failure, middle_failure, sides_failure};
 ghost use Rattle.lens_types.specs.Checking.{repeated_field, repeated_tag};
-ghost use Rattle.lens_types.specs.Earlier.{expanded_form, expanded_rows, expanded_arms, alternatives};
+ghost use Rattle.lens_types.specs.Earlier.{expanded_form, expanded_rows, expanded_arms, alternatives_form};
 ghost use Rattle.lens_types.specs.Faults.{IsFaultOf};
 ghost use Rattle.lens_types.specs.Entries.{earlier_tree};
 ghost use Rattle.lens_types.specs.Heights.{capped, HasHeights, HasRowHeights, HasArmHeights};
@@ -296,10 +296,10 @@ fn checked_alternatives(
 ) -> Result<SideHeights, TypeFault>
     ensures { (forms : ArmTrees) → HasArmHeights forms highest → MatchResult result
         (λ h. (option_or (option_map repeated_tag (first_repeat (arm_names (arms_tree arms.now))))
-        (sides_failure (alternatives forms)) ≡ None)
-        × HasHeights (alternatives forms) h)
+        (sides_failure (alternatives_form forms)) ≡ None)
+        × HasHeights (alternatives_form forms) h)
         (λ fault. IsFaultOf (option_or (option_map repeated_tag (first_repeat (arm_names (arms_tree arms.now))))
-        (sides_failure (alternatives forms))) fault) }
+        (sides_failure (alternatives_form forms))) fault) }
 {
     distinct_tags(alloc, &arm_names(alloc, arms.as_slice())?)?;
     low_alternatives(highest)
@@ -314,7 +314,7 @@ fn low_record(highest: SideHeights) -> Result<SideHeights, TypeFault>
 
 // The heights of alternatives whose highest contents are so high, where no side is too high.
 fn low_alternatives(highest: SideHeights) -> Result<SideHeights, TypeFault>
-    ensures { (arms : ArmTrees) → HasArmHeights arms highest → IsLowForm (alternatives arms) result }
+    ensures { (arms : ArmTrees) → HasArmHeights arms highest → IsLowForm (alternatives_form arms) result }
 {
     low_sides(container_heights(highest))
 }

@@ -3,7 +3,7 @@
 ghost use Rattle.std.specs.Prelude.{◌≡◌, IfOk, MatchResult, None, option_map, map};
 ghost use Rattle.program_terms.specs.Terms.{term_fields_of, term_rows_of, term_arms_of};
 ghost use Rattle.program_terms.specs.Views.{field_tree, row_tree, arm_tree};
-ghost use Rattle.lens_types.specs.Repeats.{is_same_side, sided, first_repeat, member_names, field_names, pair_names};
+ghost use Rattle.lens_types.specs.Repeats.{is_same_side, sided, first_repeat, sided_members, field_names, pair_names};
 ghost use Rattle.lens_types.specs.Repeats.{row_names, arm_names};
 ghost use Rattle.lens_types.specs.Checking.{repeated_field, repeated_tag, repeated_member};
 ghost use Rattle.lens_types.specs.Faults.{IsFaultOf};
@@ -86,7 +86,7 @@ pub(crate) fn member_names(
     alloc: Global,
     members: &[Name],
 ) -> Result<Vec<(Side, &Name)>, AllocError>
-    ensures { IfOk result (λ ns. map sided ns.items ≡ member_names members.now) }
+    ensures { IfOk result (λ ns. map sided ns.items ≡ sided_members members.now) }
 {
     let mut names = Vec::new(alloc);
     for member in members {

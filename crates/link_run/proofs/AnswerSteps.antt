@@ -5,10 +5,10 @@ use Rattle.lens_forms.specs.Forms.{FormTree}
 use Rattle.script_run.specs.declared.line_answers.Answer as stream
 use Rattle.turn_link.specs.Links.{LinkTree}
 use Rattle.turn_link.specs.Views.{link_refusal}
-use Rattle.link_run.specs.Items.{AnswerTree, is_refused}
+use Rattle.link_run.specs.Items.{LinkAnswerTree, is_refused_by_link}
 use Rattle.link_run.specs.Answers.{link_answer_line}
 use Rattle.link_run.specs.Reading.{cause_of}
-use Rattle.link_run.specs.Runs.{numbered}
+use Rattle.link_run.specs.Runs.{link_numbered}
 use Rattle.link_run.specs.Views.{answer_tree, step_with, HasAnswerLine, IsSome}
 use Rattle.link_run.specs.declared.answers.LinkAnswer.{LinkAnswer}
 use Rattle.link_run.specs.declared.answers.LinkAnswer.TheVariants.{Told, Refused, NoEvent}
@@ -27,17 +27,17 @@ has_tree (NoEvent fault) has = still_some _ (cause_of fault) has
 abbrev answer_of : List ℕ → Bool → stream.Answer
 answer_of line refused = record { line = line; refused = refused }
 
-module _ (form form' : FormTree) (s' : LinkTree) (n : ℕ) (line : List ℕ) (refused : Bool) (taken : Option (LinkTree × AnswerTree)) (same : form' ≡ form) where
-  by_tree : (o : Option AnswerTree) → IsSome o → taken ≡ option_map (λ tree. (s', tree)) o
-      → IfSome o (λ t. line ≡ link_answer_line n t) → IfSome o (λ t. refused ≡ is_refused t)
-      → option_map (numbered form n) taken ≡ Some ((form', s'), answer_of line refused)
+module _ (form form' : FormTree) (s' : LinkTree) (n : ℕ) (line : List ℕ) (refused : Bool) (taken : Option (LinkTree × LinkAnswerTree)) (same : form' ≡ form) where
+  by_tree : (o : Option LinkAnswerTree) → IsSome o → taken ≡ option_map (λ tree. (s', tree)) o
+      → IfSome o (λ t. line ≡ link_answer_line n t) → IfSome o (λ t. refused ≡ is_refused_by_link t)
+      → option_map (link_numbered form n) taken ≡ Some ((form', s'), answer_of line refused)
   by_tree None some is line_is refused_is = absurd some
   by_tree (Some t) some is line_is refused_is =
-      ap (option_map (numbered form n)) is
-      ∙ ap (λ f. let r : Option ((FormTree × LinkTree) × stream.Answer) = Some ((f, s'), answer_of (link_answer_line n t) (is_refused t)) in r) (sym same)
+      ap (option_map (link_numbered form n)) is
+      ∙ ap (λ f. let r : Option ((FormTree × LinkTree) × stream.Answer) = Some ((f, s'), answer_of (link_answer_line n t) (is_refused_by_link t)) in r) (sym same)
       ∙ ap₂ (λ x b. let r : Option ((FormTree × LinkTree) × stream.Answer) = Some ((form', s'), answer_of x b) in r) (sym line_is) (sym refused_is)
 
   pub answered_line : (a : LinkAnswer) → HasAnswerLine a → taken ≡ step_with s' a
-      → IfSome (answer_tree a) (λ t. line ≡ link_answer_line n t) → IfSome (answer_tree a) (λ t. refused ≡ is_refused t)
-      → option_map (numbered form n) taken ≡ Some ((form', s'), answer_of line refused)
+      → IfSome (answer_tree a) (λ t. line ≡ link_answer_line n t) → IfSome (answer_tree a) (λ t. refused ≡ is_refused_by_link t)
+      → option_map (link_numbered form n) taken ≡ Some ((form', s'), answer_of line refused)
   answered_line a has = by_tree (answer_tree a) (has_tree a has)

@@ -11,7 +11,8 @@ use Rattle.edit_json.specs.WordJson.{word_of_tree}
 use Rattle.edit_json.proofs.WritingReadsBack.{again as word_reads}
 use Rattle.edit_json.proofs.ReadingHasTree.{count_fits, takes as word_writes_back}
 use Rattle.turn_link.specs.Links.{EventTree, edit, seal, send, deliver, restart}
-use Rattle.link_run.specs.EventJson.{EventCause, not_an_event, not_an_edit, one_member, tree_of_side, tree_of_event, event_counts_fit, event_numbers_fit, side_of_tree, side_and_edit, edit_of_parts, event_of_side, delivery_of, event_of_member, event_of_tree}
+use Rattle.link_run.specs.EventJson.{EventCause, not_an_event, not_an_edit, tree_of_side, tree_of_event, event_counts_fit, event_numbers_fit, side_of_tree, side_and_edit, edit_of_parts, event_of_side, delivery_of, event_of_member, event_of_tree}
+use Rattle.value_json.specs.SmallTrees.{one_member}
 use Rattle.texts.proofs.Tests.{bytes_eq-is}
 use Rattle.edit_journal.proofs.Entries.{side_writes_back}
 

@@ -16,7 +16,7 @@ use Rattle.pair_answers.proofs.ActingCounts.{acting_fits}
 use Rattle.pair_answers.proofs.StepCounts.{carried_fits}
 use Rattle.turn_link.specs.declared.event.Told.{Told}
 use Rattle.turn_link.specs.declared.event.Told.TheVariants.{Draft, Sealed, Packet, Taken, Stale, Restarted}
-use Rattle.turn_link.specs.Turns.{BatchTree, Refusal, not_turn, last_number, no_batch, is_even, is_turn, last_made}
+use Rattle.turn_link.specs.Turns.{BatchTree, TurnRefusal, not_turn, last_number, no_batch, is_even, is_turn, last_made}
 use Rattle.turn_link.specs.Sites.{edited}
 use Rattle.turn_link.specs.Links.{EventTree, edit, seal, send, deliver, restart, LinkTree, ToldTree, sealed, packet, taken, stale, PacketTree, number_on, draft_on, with_number, with_entry, with_packet, drafting, delivered, shown, triple_at, word_of_step, carried_word, batch_word, batch_at, last_batch, naming, happens}
 use Rattle.turn_link.specs.Laws.{IsLinked}
@@ -24,7 +24,7 @@ use Rattle.turn_link.specs.Views.{batch_tree, told_tree}
 use Rattle.link_run.specs.Views.{HasToldLine}
 
 -- the link and the batch of an answer to a seal
-abbrev link_in : LinkTree → Option (Result (LinkTree × ToldTree) Refusal) → LinkTree
+abbrev link_in : LinkTree → Option (Result (LinkTree × ToldTree) TurnRefusal) → LinkTree
 link_in s (Some (Ok r)) = r.0
 link_in s (Some (Err why)) = s
 link_in s None = s
@@ -33,7 +33,7 @@ abbrev told_batch : ToldTree → Option BatchTree
 told_batch (sealed b) = Some b
 told_batch _ = None
 
-abbrev batch_in : Option (Result (LinkTree × ToldTree) Refusal) → Option BatchTree
+abbrev batch_in : Option (Result (LinkTree × ToldTree) TurnRefusal) → Option BatchTree
 batch_in (Some (Ok r)) = told_batch r.1
 batch_in (Some (Err why)) = None
 batch_in None = None
@@ -98,7 +98,7 @@ module _ (holds : DocTree → CompTree → DocTree → Type 0) (left : TyTree) (
 
   -- ---- what is told of an event has a line
 
-  drafting_not_sealed : (side : Side) (s s' : LinkTree) (b : BatchTree) (r : Result WordTree Refusal) → drafting side s r ≡ Ok (s', sealed b) → ⊥
+  drafting_not_sealed : (side : Side) (s s' : LinkTree) (b : BatchTree) (r : Result WordTree TurnRefusal) → drafting side s r ≡ Ok (s', sealed b) → ⊥
   drafting_not_sealed side s s' b (Ok w) h = let none : None ≡ Some b = ap (λ r. batch_in (Some r)) h in cc
   drafting_not_sealed side s s' b (Err why) h = cc
 
@@ -121,7 +121,7 @@ module _ (holds : DocTree → CompTree → DocTree → Type 0) (left : TyTree) (
   delivered_not_sealed : (s s' : LinkTree) (b : BatchTree) (o : Option PacketTree) → Some (delivered s o) ≡ Some (Ok (s', sealed b)) → ⊥
   delivered_not_sealed s s' b None h = cc
   delivered_not_sealed s s' b (Some q) h = by_test (nat_le q.batch.number (number_on q.to s)) h where
-    by_test : (old : Bool) → (let r : Option (Result (LinkTree × ToldTree) Refusal) = Some (if old then Ok (s, stale q.batch.number) else Ok (with_number q.to q.batch.number s, taken q.batch.number)) in r) ≡ Some (Ok (s', sealed b)) → ⊥
+    by_test : (old : Bool) → (let r : Option (Result (LinkTree × ToldTree) TurnRefusal) = Some (if old then Ok (s, stale q.batch.number) else Ok (with_number q.to q.batch.number s, taken q.batch.number)) in r) ≡ Some (Ok (s', sealed b)) → ⊥
     by_test true h = let none : None ≡ Some b = ap batch_in h in cc
     by_test false h = let none : None ≡ Some b = ap batch_in h in cc
 

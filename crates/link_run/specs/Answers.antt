@@ -11,11 +11,11 @@ use Rattle.complement_file.specs.ComplementJson.{tree_of_complement}
 use Rattle.edit_json.specs.WordJson.{tree_of_word}
 use Rattle.edit_session.specs.Step.{TripleTree}
 use Rattle.answer_text.specs.Lines.{no_apply_line, tree_line}
-use Rattle.turn_link.specs.Turns.{Refusal, not_turn, no_apply, last_number, unfit, ahead, bad_batch, no_batch}
+use Rattle.turn_link.specs.Turns.{TurnRefusal, not_turn, no_apply, last_number, unfit, ahead, bad_batch, no_batch}
 use Rattle.turn_link.specs.Turns.{no_packet}
 use Rattle.turn_link.specs.Links.{ToldTree, told_draft, sealed, packet, taken, stale, restarted, LinkTree, triple_at}
 use Rattle.link_run.specs.EventJson.{EventCause, line_too_long, not_json, not_an_event, not_an_edit}
-use Rattle.link_run.specs.Items.{AnswerTree, told, refused, no_event}
+use Rattle.link_run.specs.Items.{LinkAnswerTree, told, refused, no_event}
 
 -- ---- lines
 
@@ -39,28 +39,28 @@ told_line n restarted = accepted_line n (codes "restart")
 
 -- `refused N not-turn K`, `refused N no-apply AT CAUSE`, `refused N last-number`, `refused N no-batch` and
 -- `refused N no-packet COUNT`. The last three are refusals of a site alone, and no event of a link is refused so.
-abbrev pub refusal_line : ℕ → Refusal → List ℕ
-refusal_line n (not_turn k) = refused_line n (codes "not-turn " ++ decimal k)
-refusal_line n (no_apply at cause) = no_apply_line n at cause
-refusal_line n last_number = refused_line n (codes "last-number")
-refusal_line n no_batch = refused_line n (codes "no-batch")
-refusal_line n (no_packet count) = refused_line n (codes "no-packet " ++ decimal count)
-refusal_line n unfit = refused_line n (codes "unfit")
-refusal_line n (ahead have got) = refused_line n (codes "ahead " ++ decimal have ++ codes " " ++ decimal got)
-refusal_line n bad_batch = refused_line n (codes "bad-batch")
+abbrev pub turn_refusal_line : ℕ → TurnRefusal → List ℕ
+turn_refusal_line n (not_turn k) = refused_line n (codes "not-turn " ++ decimal k)
+turn_refusal_line n (no_apply at cause) = no_apply_line n at cause
+turn_refusal_line n last_number = refused_line n (codes "last-number")
+turn_refusal_line n no_batch = refused_line n (codes "no-batch")
+turn_refusal_line n (no_packet count) = refused_line n (codes "no-packet " ++ decimal count)
+turn_refusal_line n unfit = refused_line n (codes "unfit")
+turn_refusal_line n (ahead have got) = refused_line n (codes "ahead " ++ decimal have ++ codes " " ++ decimal got)
+turn_refusal_line n bad_batch = refused_line n (codes "bad-batch")
 
 -- why a line is not an event
-abbrev pub fault_text : EventCause → List ℕ
-fault_text line_too_long = codes "line-too-long"
-fault_text not_json = codes "not-json"
-fault_text not_an_event = codes "not-an-event"
-fault_text not_an_edit = codes "not-an-edit"
+abbrev pub event_fault_text : EventCause → List ℕ
+event_fault_text line_too_long = codes "line-too-long"
+event_fault_text not_json = codes "not-json"
+event_fault_text not_an_event = codes "not-an-event"
+event_fault_text not_an_edit = codes "not-an-edit"
 
 -- the answer to the item with this number
-abbrev pub link_answer_line : ℕ → AnswerTree → List ℕ
+abbrev pub link_answer_line : ℕ → LinkAnswerTree → List ℕ
 link_answer_line n (told of) = told_line n of
-link_answer_line n (refused why) = refusal_line n why
-link_answer_line n (no_event cause) = refused_line n (fault_text cause)
+link_answer_line n (refused why) = turn_refusal_line n why
+link_answer_line n (no_event cause) = refused_line n (event_fault_text cause)
 
 -- ---- the state
 
@@ -77,12 +77,12 @@ shown_lines form x y c a b =
     ++ numbers_line a b
 
 -- the triple after the first k entries of a link
-abbrev pub triple_of : FormTree → LinkTree → ℕ → Option TripleTree
-triple_of form s k = triple_at (left_type form) (right_type form) (missing form) (translate form) s.made k
+abbrev pub link_triple_of : FormTree → LinkTree → ℕ → Option TripleTree
+link_triple_of form s k = triple_at (left_type form) (right_type form) (missing form) (translate form) s.made k
 
 -- the state lines of a link: the left document and the complement that its left site shows, and the right document that
 -- its right site shows
 abbrev pub link_state_lines : FormTree → LinkTree → Option (List ℕ)
 link_state_lines form s =
     option_and_then (λ t. option_map (λ u. shown_lines form t.left u.right t.comp s.left_number s.right_number)
-    (triple_of form s s.right_number)) (triple_of form s s.left_number)
+    (link_triple_of form s s.right_number)) (link_triple_of form s s.left_number)

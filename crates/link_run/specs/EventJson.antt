@@ -6,6 +6,7 @@ use Rattle.serde_json.specs.Data.{Data, string, array, object, no_items, item, n
 use Rattle.texts.specs.declared.side.Side.{Side}
 use Rattle.value_json.specs.Numbers.{count_of, count_tree}
 use Rattle.value_json.specs.Parts.{only_member}
+use Rattle.value_json.specs.SmallTrees.{one_member}
 use Rattle.edit_json.specs.Parts.{two_items}
 use Rattle.edit_json.specs.Values.{fits_u64}
 use Rattle.edit_json.specs.WordJson.{tree_of_word, word_of_tree, counts_fit, numbers_fit}
@@ -15,10 +16,6 @@ use Rattle.edit_journal.specs.declared.line.Line.TheVariants.{Text, TooLong}
 use Rattle.turn_link.specs.Links.{EventTree, edit, seal, send, deliver, restart}
 
 -- ---- the tree of an event
-
--- an object with exactly one member
-abbrev pub one_member : List ℕ → Data → Data
-one_member name content = object (member name content no_members)
 
 -- the name of a side, as a string
 abbrev pub tree_of_side : Side → Data

@@ -4,7 +4,7 @@ use Rattle.accepted_programs.specs.Program.{Refusal, lens_of}
 use Rattle.turn_link.specs.Links.{LinkTree}
 use Rattle.script_run.specs.declared.script_state.ScriptState as OfScript
 use Rattle.answer_text.specs.RefusalLines.{refused_part_line}
-use Rattle.link_run.specs.Runs.{first_link, line_answer, state_of, state_text, IsInTurnsWith}
+use Rattle.link_run.specs.Runs.{first_link, link_line_answer, link_state_of, link_state_text, IsInTurnsWith}
 use Rattle.link_run.specs.declared.script.LinkRun.{LinkRun}
 
 abbrev pub link_script : OfScript.Ghosts LinkRun
@@ -12,11 +12,11 @@ link_script = record {
   Accepted = FormTree;
   Refusal = Refusal;
   State = FormTree × LinkTree;
-  state = λ s. state_of s.link;
+  state = λ s. link_state_of s.link;
   accepted = lens_of;
   refusal_line = refused_part_line;
   start = first_link;
-  answer = line_answer;
-  state_text = state_text;
+  answer = link_line_answer;
+  state_text = link_state_text;
   in_step = IsInTurnsWith;
 }

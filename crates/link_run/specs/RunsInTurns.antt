@@ -16,17 +16,17 @@ use Rattle.script_run.specs.declared.line_answers.Answer.{Answer}
 use Rattle.accepted_programs.proofs.AcceptedForms.{accepted_typed}
 use Rattle.script_run.specs.ScriptEnds.{EveryRunStaysInStep}
 use Rattle.script_run.proofs.StepsStay.{every_run as every_step}
-use Rattle.turn_link.specs.Turns.{Refusal}
+use Rattle.turn_link.specs.Turns.{TurnRefusal}
 use Rattle.turn_link.specs.Links.{ToldTree, LinkTree, link_start, link_after}
 use Rattle.turn_link.proofs.LinkRuns.{goes_on, start_linked}
 use Rattle.link_run.specs.EventJson.{event_of_line}
-use Rattle.link_run.specs.Items.{ScriptItem, no_event, answered, take_link_item}
+use Rattle.link_run.specs.Items.{ScriptItem, no_event, link_answered, take_link_item}
 use Rattle.link_run.specs.Answers.{shown_lines}
 use Rattle.link_run.specs.LinkScript.{link_script}
-use Rattle.link_run.specs.Runs.{IsLinkOf, first_link, numbered, line_answer, IsInTurnsWith}
+use Rattle.link_run.specs.Runs.{IsLinkOf, first_link, link_numbered, link_line_answer, IsInTurnsWith}
 
 -- the link of an answer is the link after it
-answered_link : (s : LinkTree) (r : Result (LinkTree × ToldTree) Refusal) → (answered s r).0 ≡ link_after s r
+answered_link : (s : LinkTree) (r : Result (LinkTree × ToldTree) TurnRefusal) → (link_answered s r).0 ≡ link_after s r
 answered_link s (Ok x) = refl
 answered_link s (Err why) = refl
 
@@ -51,23 +51,23 @@ module _ (form : FormTree) where
     abbrev StepsOn : LinkTree → ℕ → ScriptItem → FormTree → Type 0
     StepsOn s n item f =
         (r : (FormTree × LinkTree) × Answer)
-        × (option_map (numbered f n) (take_link_item (left_type f) (right_type f) (missing f) (translate f) s item)
+        × (option_map (link_numbered f n) (take_link_item (left_type f) (right_type f) (missing f) (translate f) s item)
         ≡ Some r)
         × IsInTurnsWith form r.0
 
     steps_on : (s : LinkTree) (n : ℕ) (item : ScriptItem) → IsLinkOf form s → StepsOn s n item form
-    steps_on s n (Err cause) k = (numbered form n (s, no_event cause), refl, linked_kept s k)
+    steps_on s n (Err cause) k = (link_numbered form n (s, no_event cause), refl, linked_kept s k)
     steps_on s n (Ok e) k =
         let g = goes_on (IsConsistent form) (left_type form) (right_type form) (missing form) (translate form)
         (form_edits form typed Left) (form_edits form typed Right) s k e in
-        let next = answered s g.0 in (
-          numbered form n next,
-          ap (λ o. option_map (numbered form n) (option_map (answered s) o)) g.1,
+        let next = link_answered s g.0 in (
+          link_numbered form n next,
+          ap (λ o. option_map (link_numbered form n) (option_map (link_answered s) o)) g.1,
           linked_kept next.0 (subst (IsLinkOf form) (sym (answered_link s g.0)) g.2),
         )
 
     steps_stay : (t : FormTree × LinkTree) (n : ℕ) (line : Line) → is_blank line ≡ false → IsInTurnsWith form t
-        → (r : (FormTree × LinkTree) × Answer) × (line_answer t n line ≡ Some r) × IsInTurnsWith form r.0
+        → (r : (FormTree × LinkTree) × Answer) × (link_line_answer t n line ≡ Some r) × IsInTurnsWith form r.0
     steps_stay t n line not_blank k =
         subst (StepsOn t.1 n (event_of_line line)) (sym k.lens) (steps_on t.1 n (event_of_line line) k.linked)
 
@@ -76,5 +76,5 @@ every_run part form accepted lines =
     let typed = accepted_typed part form accepted in
     let k = start_linked (IsConsistent form) (left_type form) (right_type form) (missing form) (translate form)
     (form_starts form typed) in
-    every_step line_answer (IsInTurnsWith form) (steps_stay form typed) (first_link form)
+    every_step link_line_answer (IsInTurnsWith form) (steps_stay form typed) (first_link form)
     (linked_kept form link_start k) lines

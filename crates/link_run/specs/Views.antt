@@ -7,18 +7,18 @@ use Rattle.turn_link.specs.declared.event.Told.TheVariants.{Sealed}
 use Rattle.turn_link.specs.Links.{LinkTree}
 use Rattle.turn_link.specs.Views.{told_tree, link_refusal}
 use Rattle.link_run.specs.Reading.{cause_of}
-use Rattle.link_run.specs.Items.{AnswerTree, told, refused, no_event}
+use Rattle.link_run.specs.Items.{LinkAnswerTree, told, refused, no_event}
 use Rattle.link_run.specs.declared.answers.LinkAnswer.{LinkAnswer}
 use Rattle.link_run.specs.declared.answers.LinkAnswer.TheVariants as answer
 
 -- the tree of an answer; an error that memory ran out has none
-abbrev pub answer_tree : LinkAnswer → Option AnswerTree
+abbrev pub answer_tree : LinkAnswer → Option LinkAnswerTree
 answer_tree (answer.Told of) = Some (told (told_tree of))
 answer_tree (answer.Refused fault) = option_map refused (link_refusal fault)
 answer_tree (answer.NoEvent fault) = option_map no_event (cause_of fault)
 
 -- the step of a run that comes to this link with this answer
-abbrev pub step_with : LinkTree → LinkAnswer → Option (LinkTree × AnswerTree)
+abbrev pub step_with : LinkTree → LinkAnswer → Option (LinkTree × LinkAnswerTree)
 step_with s a = option_map (λ tree. (s, tree)) (answer_tree a)
 
 -- a batch has a line if the counts in its word fit

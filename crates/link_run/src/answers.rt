@@ -2,13 +2,13 @@
 ghost use Rattle.std.specs.Prelude.{◌≡◌, ◌++◌, true, codes, decimal, IfOk, IfSome};
 ghost use Rattle.edit_module.specs.Views.{word_tree};
 ghost use Rattle.edit_json.specs.WordJson.{counts_fit};
-ghost use Rattle.turn_link.specs.Turns.{Refusal};
+ghost use Rattle.turn_link.specs.Turns.{TurnRefusal};
 ghost use Rattle.turn_link.specs.Links.{sealed};
 ghost use Rattle.turn_link.specs.Views.{told_tree, link_refusal, batch_tree};
 ghost use Rattle.link_run.specs.EventJson.{EventCause};
 ghost use Rattle.link_run.specs.Reading.{cause_of};
-ghost use Rattle.link_run.specs.Items.{is_refused};
-ghost use Rattle.link_run.specs.Answers.{accepted_line, refused_line, told_line, refusal_line, fault_text};
+ghost use Rattle.link_run.specs.Items.{is_refused_by_link};
+ghost use Rattle.link_run.specs.Answers.{accepted_line, refused_line, told_line, turn_refusal_line, event_fault_text};
 ghost use Rattle.link_run.specs.Answers.{link_answer_line};
 ghost use Rattle.link_run.specs.Views.{answer_tree, HasToldLine, HasAnswerLine, IsSome};
 
@@ -33,7 +33,7 @@ pub enum LinkAnswer {
 impl LinkAnswer {
     /// Whether the line was refused.
     pub fn is_refused(&self) -> bool
-        ensures refused { IfSome (answer_tree self.now) (λ answer. result ≡ is_refused answer) }
+        ensures refused { IfSome (answer_tree self.now) (λ answer. result ≡ is_refused_by_link answer) }
     {
         match self {
             LinkAnswer::Told(_) => false,
@@ -108,7 +108,7 @@ fn accepted_line(alloc: Global, number: u64, what: &str) -> Result<Bytes, AllocE
 fn refusal_line(alloc: Global, number: u64, fault: LinkFault) -> Result<Bytes, AllocError>
     requires of_the_event { IsSome (link_refusal fault) }
     ensures { IfOk result (λ line. IfSome (link_refusal fault)
-        (λ why. line ≡ refusal_line number why)) }
+        (λ why. line ≡ turn_refusal_line number why)) }
 {
     match fault {
         LinkFault::NotTurn { number: site } => counted_line(alloc, number, "not-turn", site),
@@ -138,7 +138,7 @@ fn refused_line(alloc: Global, number: u64, what: &str) -> Result<Bytes, AllocEr
 
 fn fault_text(fault: EventFault) -> &'static str
     requires { IsSome (cause_of fault) }
-    ensures { IfSome (cause_of fault) (λ cause. result.now ≡ fault_text cause) }
+    ensures { IfSome (cause_of fault) (λ cause. result.now ≡ event_fault_text cause) }
 {
     match fault {
         EventFault::LineTooLong => "line-too-long",

@@ -4,7 +4,7 @@ ghost use Rattle.turn_link.specs.LinkViews.{link_tree};
 ghost use Rattle.turn_link.specs.Views.{event_tree};
 ghost use Rattle.link_run.specs.EventJson.{event_of_line};
 ghost use Rattle.link_run.specs.Linked.{IsLinkedOf, take_item_of};
-ghost use Rattle.link_run.specs.Runs.{line_answer, state_of};
+ghost use Rattle.link_run.specs.Runs.{link_line_answer, link_state_of};
 ghost use Rattle.link_run.specs.Views.{step_with, HasAnswerLine};
 
 use crate::answers::{LinkAnswer, link_answer_line};
@@ -24,8 +24,8 @@ pub(crate) fn answer_item(
     number: u64,
     line: &Line,
 ) -> Result<script_run::Answer, AllocError>
-    ensures { IfOk result (λ a. line_answer (state_of link.old) number line.now
-        ≡ Some (state_of link.new, a)) }
+    ensures { IfOk result (λ a. link_line_answer (link_state_of link.old) number line.now
+        ≡ Some (link_state_of link.new, a)) }
 {
     let answer = take_link_item(alloc, link, line)?;
     let line = link_answer_line(alloc, number, &answer)?;

@@ -2,10 +2,10 @@
 ghost use Rattle.std.specs.Prelude.{◌≡◌, ℕ, List, IfOk, Result};
 ghost use Rattle.lens_forms.specs.Forms.{FormTree, form_tree};
 ghost use Rattle.accepted_programs.specs.Program.{Refusal, lens_of};
-ghost use Rattle.accepted_programs.specs.Refused.{IsKnown, IsRefusal};
+ghost use Rattle.accepted_programs.specs.Refused.{IsKnown, IsProgramRefusal};
 ghost use Rattle.script_run.specs.ScriptSteps.{Opens, IsNotOpened};
 ghost use Rattle.link_run.specs.LinkScript.{link_script};
-ghost use Rattle.link_run.specs.Runs.{first_link, state_of, state_text};
+ghost use Rattle.link_run.specs.Runs.{first_link, link_state_of, link_state_text};
 
 use crate::journal::answer_item;
 use crate::state::link_state_lines;
@@ -31,7 +31,7 @@ impl ScriptState for LinkRun {
     ghost use Rattle.accepted_programs.specs.Program.{Refusal, lens_of};
     ghost use Rattle.turn_link.specs.Links.{LinkTree};
     ghost use Rattle.answer_text.specs.RefusalLines.{refused_part_line};
-    ghost use Rattle.link_run.specs.Runs.{first_link, line_answer, state_of, state_text, IsInTurnsWith};
+    ghost use Rattle.link_run.specs.Runs.{first_link, link_line_answer, link_state_of, link_state_text, IsInTurnsWith};
 
     ghost Accepted = { FormTree };
 
@@ -39,7 +39,7 @@ impl ScriptState for LinkRun {
 
     ghost State = { FormTree × LinkTree };
 
-    ghost state = { λ s. state_of s.link };
+    ghost state = { λ s. link_state_of s.link };
 
     ghost accepted = { lens_of };
 
@@ -47,9 +47,9 @@ impl ScriptState for LinkRun {
 
     ghost start = { first_link };
 
-    ghost answer = { line_answer };
+    ghost answer = { link_line_answer };
 
-    ghost state_text = { state_text };
+    ghost state_text = { link_state_text };
 
     ghost in_step = { IsInTurnsWith };
 
@@ -65,7 +65,7 @@ impl ScriptState for LinkRun {
 // The state lines of a link of a compiled lens.
 #[tactic(auto, using(lens_flat::proofs::FormLenses::is_lens_of))]
 fn text_of_state(alloc: Global, link: &Link<Flat>) -> Result<Bytes, AllocError>
-    ensures { IfOk result (λ text. text ≡ state_text (state_of link.now)) }
+    ensures { IfOk result (λ text. text ≡ link_state_text (link_state_of link.now)) }
 {
     let text = link_state_lines(alloc, link.left().lens().typed(), link)?;
     Ok(Bytes::from_vec(text))
@@ -98,7 +98,7 @@ fn start_run(alloc: Global, typed: Typed) -> Result<LinkRun, NotOpened>
 }
 
 fn first_run(alloc: Global, typed: &Typed) -> Result<LinkRun, AllocError>
-    ensures { IfOk result (λ run. state_of run.link ≡ first_link (form_tree typed.now)) }
+    ensures { IfOk result (λ run. link_state_of run.link ≡ first_link (form_tree typed.now)) }
 {
     let lens = Flat::compile(alloc, typed)?;
     let link = Link::start(alloc, lens)?;
@@ -108,7 +108,7 @@ fn first_run(alloc: Global, typed: &Typed) -> Result<LinkRun, AllocError>
 // The refusal of a program part, with its line. Running out of memory is not a refusal.
 fn refusal(alloc: Global, refused: Refused) -> NotOpened
     requires { IsKnown refused }
-    ensures { (outcome : Result FormTree Refusal) → IsRefusal outcome refused
+    ensures { (outcome : Result FormTree Refusal) → IsProgramRefusal outcome refused
         → IsNotOpened link_script outcome result }
 {
     let line = refused_part_line(alloc, &refused);

@@ -1,7 +1,7 @@
 -- The report of `run` is the text of a run of the library, or the line of a refusal.
 use Rattle.std.proofs.Common.{◌≡◌, ◌⊎◌, inl, inr, ℕ, List, ◌++◌, Bool, true, false, map, Option, None, Some, option_map, Result, Ok, Err, refl, sym, ap, ap₂, ◌∙◌}
 use Rattle.accepted_programs.specs.Program.{Refusal, lens_of}
-use Rattle.command_ends.specs.Statuses.{IsFinished, end_of}
+use Rattle.command_ends.specs.Statuses.{IsFinished, status_at_end}
 use Rattle.command_ends.specs.declared.status.Status.{Status}
 use Rattle.command_ends.specs.declared.status.Status.TheVariants.{ProgramRefused}
 use Rattle.edit_journal.specs.Lines.{line_of}
@@ -16,8 +16,8 @@ use Rattle.kept_sessions.specs.declared.outcome.Part.TheVariants.{State}
 use Rattle.kept_sessions.proofs.GivenLines.{is_reported}
 use Rattle.lens_forms.specs.Forms.{FormTree}
 use Rattle.pair_answers.specs.Answers.{text_from}
-use Rattle.pair_answers.specs.ItemRuns.{first_of, items_of, run_of}
-use Rattle.pair_run.specs.Runs.{first_pair, state_text}
+use Rattle.pair_answers.specs.ItemRuns.{triple_at_first, items_of, run_of}
+use Rattle.pair_run.specs.Runs.{first_pair, pair_state_text}
 use Rattle.pair_run.specs.Scripts.{pair_script}
 use Rattle.script_input.specs.Lines.{program_part, journal}
 use Rattle.script_run.specs.LineRuns.{of_steps}
@@ -30,7 +30,7 @@ use Rattle.one_text_laws.proofs.PairLines.{Steps, LineSteps, as_lines, runs_alik
 
 -- the text and the status of a run over items
 abbrev run_text : FormTree → Steps → List ℕ × Status
-run_text form steps = (text_from form (first_of form) steps, end_of (items.any_refused steps))
+run_text form steps = (text_from form (triple_at_first form) steps, status_at_end (items.any_refused steps))
 
 module _ (form : FormTree) where
   abbrev written_of : LineSteps → List ℕ × Status
@@ -39,8 +39,8 @@ module _ (form : FormTree) where
   written_alike : (steps : Steps) → written_of (as_lines form 0 steps) ≡ run_text form steps
   written_alike steps =
       ap₂ (λ (text : List ℕ) (status : Status). (text, status))
-      (ap₂ (λ x y. x ++ y) (texts_alike form 0 steps) (ap state_text (last_alike form (first_of form) 0 steps)))
-      (ap end_of (refused_alike form 0 steps))
+      (ap₂ (λ x y. x ++ y) (texts_alike form 0 steps) (ap pair_state_text (last_alike form (triple_at_first form) 0 steps)))
+      (ap status_at_end (refused_alike form 0 steps))
 
   each_alike : (o : Option Steps) → option_map (with_state pair_script) (option_map (of_steps (first_pair form)) (option_map (as_lines form 0) o)) ≡ option_map (run_text form) o
   each_alike None = refl
@@ -48,7 +48,7 @@ module _ (form : FormTree) where
 
   report_alike : (lines : List Line) → report_with pair_script (Ok form) lines ≡ option_map (run_text form) (run_of form (items_of lines))
   report_alike lines =
-      ap (λ o. option_map (with_state pair_script) (option_map (of_steps (first_pair form)) o)) (runs_alike form (first_of form) 0 lines)
+      ap (λ o. option_map (with_state pair_script) (option_map (of_steps (first_pair form)) o)) (runs_alike form (triple_at_first form) 0 lines)
       ∙ each_alike (run_of form (items_of lines))
 
 -- ---- both ways
@@ -102,15 +102,15 @@ module _ (script text : List ℕ) (status : Status) where
 
 -- ---- the library
 
-ends : (b : Bool) → IsFinished (end_of b)
+ends : (b : Bool) → IsFinished (status_at_end b)
 ends true = inr refl
 ends false = inl refl
 
 reported : (script text : List ℕ) (lines : List (List ℕ)) → map line_of lines ≡ journal script → IsReported (program_part script) lines text → IsReportText pair_script script text
 reported script text lines behind r = record {
-  status = end_of (items.any_refused r.steps);
+  status = status_at_end (items.any_refused r.steps);
   finished = ends (items.any_refused r.steps);
-  is_report = run_is_report script text (end_of (items.any_refused r.steps)) (record {
+  is_report = run_is_report script text (status_at_end (items.any_refused r.steps)) (record {
     form = r.form;
     lens = r.lens;
     steps = r.steps;

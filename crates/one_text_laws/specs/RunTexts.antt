@@ -3,7 +3,7 @@
 use Rattle.std.specs.Prelude.{◌≡◌, ℕ, List, Some, Ok, Err}
 use Rattle.accepted_programs.specs.Program.{Refusal, lens_of}
 use Rattle.answer_text.specs.RefusalLines.{refused_part_line}
-use Rattle.command_ends.specs.Statuses.{end_of}
+use Rattle.command_ends.specs.Statuses.{status_at_end}
 use Rattle.command_ends.specs.declared.status.Status.{Status}
 use Rattle.command_ends.specs.declared.status.Status.TheVariants.{ProgramRefused}
 use Rattle.edit_session.specs.Run.{any_refused}
@@ -13,7 +13,7 @@ use Rattle.kept_sessions.specs.declared.kept.Kept.{Kept}
 use Rattle.kept_sessions.specs.declared.kept.Kept.TheVariants as kept
 use Rattle.lens_forms.specs.Forms.{FormTree}
 use Rattle.pair_answers.specs.Answers.{text_from}
-use Rattle.pair_answers.specs.ItemRuns.{JournalAnswer, first_of, items_of, run_of}
+use Rattle.pair_answers.specs.ItemRuns.{JournalAnswer, triple_at_first, items_of, run_of}
 use Rattle.script_input.specs.Lines.{program_part, journal}
 
 -- The program part of the script is accepted. The text is the answer lines of the run of its lens over the items of the
@@ -23,8 +23,8 @@ pub record IsRunText (script text : List ℕ) (status : Status) : Type 0 where
   pub lens : lens_of (program_part script) ≡ Ok form
   pub steps : List (TripleTree × JournalAnswer)
   pub is_run : run_of form (items_of (journal script)) ≡ Some steps
-  pub is_text : text ≡ text_from form (first_of form) steps
-  pub is_status : status ≡ end_of (any_refused steps)
+  pub is_text : text ≡ text_from form (triple_at_first form) steps
+  pub is_status : status ≡ status_at_end (any_refused steps)
 
 -- The program part of the script is refused, and the text is the line of the refusal.
 pub record IsRefusalText (script text : List ℕ) (status : Status) : Type 0 where

@@ -24,8 +24,8 @@ items_of [] = []
 items_of (line ∷ lines) = if is_blank line then items_of lines else change_of_line line ∷ items_of lines
 
 -- the first triple of a form: the initial documents of its two types, and its missing complement
-abbrev pub first_of : FormTree → TripleTree
-first_of form = first (left_type form) (right_type form) (missing form)
+abbrev pub triple_at_first : FormTree → TripleTree
+triple_at_first form = first (left_type form) (right_type form) (missing form)
 
 -- the triple is in the form's consistency relation
 abbrev pub IsInStepFor : FormTree → TripleTree → Type 0
@@ -41,8 +41,8 @@ triples_from form t items = triples (left_type form) (right_type form) (translat
 
 -- the run from the first triple on
 abbrev pub run_of : FormTree → List JournalItem → Option (List (TripleTree × JournalAnswer))
-run_of form items = run_from form (first_of form) items
+run_of form items = run_from form (triple_at_first form) items
 
 -- every triple of the run, the first one included
 abbrev pub triples_of : FormTree → List JournalItem → Option (List TripleTree)
-triples_of form items = triples_from form (first_of form) items
+triples_of form items = triples_from form (triple_at_first form) items

@@ -13,7 +13,7 @@ use Rattle.edit_session.specs.Run.{run, take_item, triples}
 use Rattle.edit_session.specs.Step.{TripleTree}
 use Rattle.edit_session.proofs.RunInStep.{runs_stay_in_step}
 use Rattle.form_steps.specs.LawsOfForms.{form_starts, form_edits}
-use Rattle.pair_answers.specs.ItemRuns.{JournalItem, JournalAnswer, IsInStepFor, first_of, triples_from}
+use Rattle.pair_answers.specs.ItemRuns.{JournalItem, JournalAnswer, IsInStepFor, triple_at_first, triples_from}
 use Rattle.lens_core.specs.Consistency.{IsConsistent}
 use Rattle.lens_core.specs.Translation.{translate}
 use Rattle.lens_forms.specs.Forms.{FormTree, left_type, right_type}

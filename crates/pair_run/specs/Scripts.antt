@@ -4,7 +4,7 @@ use Rattle.accepted_programs.specs.Program.{Refusal, lens_of}
 use Rattle.answer_text.specs.RefusalLines.{refused_part_line}
 use Rattle.edit_session.specs.Step.{TripleTree}
 use Rattle.lens_forms.specs.Forms.{FormTree, form_tree}
-use Rattle.pair_run.specs.Runs.{IsPairInStep, first_pair, line_answer, state_of, state_text}
+use Rattle.pair_run.specs.Runs.{IsPairInStep, first_pair, line_answer, pair_state_of, pair_state_text}
 use Rattle.pair_run.specs.Shown.{IsShown, no_answer, same_form, type_lines}
 use Rattle.pair_run.specs.declared.pair.PairRun.{PairRun}
 use Rattle.pair_run.specs.declared.shown.TypesShown.{TypesShown}
@@ -16,12 +16,12 @@ pair_script = record {
   Accepted = FormTree;
   Refusal = Refusal;
   State = FormTree × TripleTree;
-  state = λ s. state_of s.session;
+  state = λ s. pair_state_of s.session;
   accepted = lens_of;
   refusal_line = refused_part_line;
   start = first_pair;
   answer = line_answer;
-  state_text = state_text;
+  state_text = pair_state_text;
   in_step = IsPairInStep;
 }
 

@@ -1,9 +1,9 @@
 //! The state of `run`: a session that answers the journal of a script.
 ghost use Rattle.std.specs.Prelude.{◌≡◌, ℕ, List, IfOk, Ok, Some, Result};
 ghost use Rattle.accepted_programs.specs.Program.{Refusal, lens_of};
-ghost use Rattle.accepted_programs.specs.Refused.{IsKnown, IsRefusal};
+ghost use Rattle.accepted_programs.specs.Refused.{IsKnown, IsProgramRefusal};
 ghost use Rattle.lens_forms.specs.Forms.{FormTree, form_tree};
-ghost use Rattle.pair_run.specs.Runs.{first_pair, line_answer, state_of, state_text};
+ghost use Rattle.pair_run.specs.Runs.{first_pair, line_answer, pair_state_of, pair_state_text};
 ghost use Rattle.pair_run.specs.Scripts.{pair_script};
 ghost use Rattle.script_run.specs.ScriptSteps.{Opens, IsNotOpened};
 
@@ -30,7 +30,7 @@ impl ScriptState for PairRun {
     ghost use Rattle.answer_text.specs.RefusalLines.{refused_part_line};
     ghost use Rattle.edit_session.specs.Step.{TripleTree};
     ghost use Rattle.lens_forms.specs.Forms.{FormTree};
-    ghost use Rattle.pair_run.specs.Runs.{IsPairInStep, first_pair, line_answer, state_of, state_text};
+    ghost use Rattle.pair_run.specs.Runs.{IsPairInStep, first_pair, line_answer, pair_state_of, pair_state_text};
 
     ghost Accepted = { FormTree };
 
@@ -38,7 +38,7 @@ impl ScriptState for PairRun {
 
     ghost State = { FormTree × TripleTree };
 
-    ghost state = { λ s. state_of s.session };
+    ghost state = { λ s. pair_state_of s.session };
 
     ghost accepted = { lens_of };
 
@@ -48,7 +48,7 @@ impl ScriptState for PairRun {
 
     ghost answer = { line_answer };
 
-    ghost state_text = { state_text };
+    ghost state_text = { pair_state_text };
 
     ghost in_step = { IsPairInStep };
 
@@ -68,7 +68,8 @@ fn answer_item(
     number: u64,
     line: &Line,
 ) -> Result<Answer, AllocError>
-    ensures { IfOk result (λ a. line_answer (state_of session.old) number line.now ≡ Some (state_of session.new, a)) }
+    ensures { IfOk result
+        (λ a. line_answer (pair_state_of session.old) number line.now ≡ Some (pair_state_of session.new, a)) }
 {
     let answer = take_item(alloc, session, line)?;
     let line = answer_line(alloc, number, &answer)?;
@@ -79,7 +80,7 @@ fn answer_item(
 // The state lines of a session of a compiled lens.
 #[tactic(auto, using(lens_flat::proofs::FormLenses::is_lens_of))]
 fn text_of_state(alloc: Global, session: &Session<Flat>) -> Result<Bytes, AllocError>
-    ensures { IfOk result (λ text. text ≡ state_text (state_of session.now)) }
+    ensures { IfOk result (λ text. text ≡ pair_state_text (pair_state_of session.now)) }
 {
     let text = state_lines(alloc, session.lens().typed(), session)?;
     Ok(Bytes::from_vec(text))
@@ -111,7 +112,7 @@ fn start_run(alloc: Global, typed: Typed) -> Result<PairRun, NotOpened>
 }
 
 fn first_run(alloc: Global, typed: &Typed) -> Result<PairRun, AllocError>
-    ensures { IfOk result (λ run. state_of run.session ≡ first_pair (form_tree typed.now)) }
+    ensures { IfOk result (λ run. pair_state_of run.session ≡ first_pair (form_tree typed.now)) }
 {
     let lens = Flat::compile(alloc, typed)?;
     let session = Session::start(alloc, lens)?;
@@ -121,7 +122,8 @@ fn first_run(alloc: Global, typed: &Typed) -> Result<PairRun, AllocError>
 // The refusal of a program part, with its line. Running out of memory is not a refusal.
 fn not_opened(alloc: Global, refused: Refused) -> NotOpened
     requires { IsKnown refused }
-    ensures { (outcome : Result FormTree Refusal) → IsRefusal outcome refused → IsNotOpened pair_script outcome result }
+    ensures { (outcome : Result FormTree Refusal) → IsProgramRefusal outcome refused
+        → IsNotOpened pair_script outcome result }
 {
     let line = refused_part_line(alloc, &refused);
     drop(refused);

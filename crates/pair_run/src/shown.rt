@@ -1,7 +1,7 @@
 //! The state of `check`: the two types of a lens, which are shown at the end of a script.
 ghost use Rattle.std.specs.Prelude.{◌≡◌, IfOk, Result};
 ghost use Rattle.accepted_programs.specs.Program.{Refusal};
-ghost use Rattle.accepted_programs.specs.Refused.{IsKnown, IsRefusal};
+ghost use Rattle.accepted_programs.specs.Refused.{IsKnown, IsProgramRefusal};
 ghost use Rattle.lens_forms.specs.Forms.{FormTree, form_tree};
 ghost use Rattle.pair_run.specs.Scripts.{types_script};
 ghost use Rattle.pair_run.specs.Shown.{type_lines};
@@ -88,7 +88,7 @@ impl ProgramScript for TypesShown {
 // The refusal of a program part, with its line. Running out of memory is not a refusal.
 fn not_opened(alloc: Global, refused: Refused) -> NotOpened
     requires { IsKnown refused }
-    ensures { (outcome : Result FormTree Refusal) → IsRefusal outcome refused
+    ensures { (outcome : Result FormTree Refusal) → IsProgramRefusal outcome refused
         → IsNotOpened types_script outcome result }
 {
     let line = refused_part_line(alloc, &refused);

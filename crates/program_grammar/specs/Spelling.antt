@@ -45,16 +45,16 @@ AreStrings [] here there = ⊥
 AreStrings (m ∷ ms) here there = (a : Point) × Is (Text m) here a × OtherStrings ms a there
 
 -- a pair of strings; pairs behind commas, and pairs with commas between them
-abbrev pub IsPair : List ℕ × List ℕ → Point → Point → Type 0
-IsPair p here there = (a b : Point) × Is (Text p.0) here a × Is (Mark Equals) a b × Is (Text p.1) b there
+abbrev pub IsTextPair : List ℕ × List ℕ → Point → Point → Type 0
+IsTextPair p here there = (a b : Point) × Is (Text p.0) here a × Is (Mark Equals) a b × Is (Text p.1) b there
 
 abbrev pub OtherPairs : List (List ℕ × List ℕ) → Point → Point → Type 0
 OtherPairs [] here there = here ≡ there
-OtherPairs (p ∷ ps) here there = (a b : Point) × Is (Mark Comma) here a × IsPair p a b × OtherPairs ps b there
+OtherPairs (p ∷ ps) here there = (a b : Point) × Is (Mark Comma) here a × IsTextPair p a b × OtherPairs ps b there
 
 abbrev pub ArePairs : List (List ℕ × List ℕ) → Point → Point → Type 0
 ArePairs [] here there = ⊥
-ArePairs (p ∷ ps) here there = (a : Point) × IsPair p here a × OtherPairs ps a there
+ArePairs (p ∷ ps) here there = (a : Point) × IsTextPair p here a × OtherPairs ps a there
 
 -- an initial value: left out, where it is the one that is then meant, or behind `=`
 abbrev pub IsInitial : {A : Type 0} → (A → Token) → A → A → Point → Point → Type 0

@@ -11,7 +11,7 @@ use Rattle.program_grammar.specs.Mentions.{NotedDefinition, NotedProgram, defini
 use Rattle.program_grammar.specs.Reading.{program_at}
 use Rattle.program_reader.specs.declared.fault.ProgramReadFault.{ProgramReadFault}
 use Rattle.program_reader.specs.Known.{first_unknown_among, first_fault_among, or_fault}
-use Rattle.program_reader.specs.Causes.{ReadCause, name_cause, if_no_fault, program_or_cause, program_of, IsRefusal, IsResult}
+use Rattle.program_reader.specs.Causes.{ReadCause, name_cause, if_no_fault, program_or_cause, program_of, IsTokenRefusal, IsResult}
 use Rattle.program_reader.proofs.FirstFault.{first_fault_same}
 
 none_found : (fault : Option NameFault) → Ok tt ≡ or_fault fault → fault ≡ None
@@ -38,7 +38,7 @@ with_main None p known result e is =
     ap (λ (ds : List (List ℕ × DefTree)). Ok (record { definitions = ds; main = p.main })) all ∙ ap (λ (tree : ProgramTree). Ok tree) (sym is)
 with_main (Some fault) p known result e is = absurd cc
 
-pub still_refused : {A B : Type 0} (cause : Option ReadCause) (fault : Option NameFault) (x : A) (y : B) → IsRefusal cause (if_no_fault fault x) → IsRefusal cause (if_no_fault fault y)
+pub still_refused : {A B : Type 0} (cause : Option ReadCause) (fault : Option NameFault) (x : A) (y : B) → IsTokenRefusal cause (if_no_fault fault x) → IsTokenRefusal cause (if_no_fault fault y)
 still_refused None fault x y h = tt
 still_refused (Some cause) None x y h = absurd cc
 still_refused {B = B} (Some cause) (Some fault) x y h = let same : name_cause fault ≡ cause = cc in ap (λ (c : ReadCause). Err c) same

@@ -45,22 +45,22 @@ program_of tokens = program_or_cause (program_at tokens)
 -- ---- the faults of the code
 
 -- the cause of a fault; running out of memory says nothing of the tokens
-abbrev pub cause_of : ProgramReadFault → Option ReadCause
-cause_of NoMemory = None
-cause_of Ended = Some ended
-cause_of (NotAProgram at) = Some (not_a_program at)
-cause_of (UnknownName at) = Some (unknown_name at)
-cause_of (RepeatedName at) = Some (repeated_name at)
+abbrev pub read_cause : ProgramReadFault → Option ReadCause
+read_cause NoMemory = None
+read_cause Ended = Some ended
+read_cause (NotAProgram at) = Some (not_a_program at)
+read_cause (UnknownName at) = Some (unknown_name at)
+read_cause (RepeatedName at) = Some (repeated_name at)
 
 -- the result is this cause, where there is one
-abbrev pub IsRefusal : {Y : Type 0} → Option ReadCause → Result Y ReadCause → Type 0
-IsRefusal None wanted = Unit {0}
-IsRefusal (Some cause) wanted = wanted ≡ Err cause
+abbrev pub IsTokenRefusal : {Y : Type 0} → Option ReadCause → Result Y ReadCause → Type 0
+IsTokenRefusal None wanted = Unit {0}
+IsTokenRefusal (Some cause) wanted = wanted ≡ Err cause
 
 -- what the code returns, as it is viewed, is the wanted result
 abbrev pub IsResult : {X Y : Type 0} → (X → Y) → Result X ProgramReadFault → Result Y ReadCause → Type 0
 IsResult view (Ok x) wanted = wanted ≡ Ok (view x)
-IsResult view (Err fault) wanted = IsRefusal (cause_of fault) wanted
+IsResult view (Err fault) wanted = IsTokenRefusal (read_cause fault) wanted
 
 -- the public fault for tokens that do not fit
 abbrev pub public_fault : ReadFault → ProgramReadFault

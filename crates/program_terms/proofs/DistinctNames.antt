@@ -6,7 +6,7 @@ use Rattle.std.proofs.Math.Seq.{take-suc}
 use Rattle.std.proofs.lemmas.Cmp.{nat_list_eq_equiv}
 use Rattle.std.proofs.lemmas.Map.Keys.{IsDistinct-head, IsDistinct-tail}
 use Rattle.std.proofs.lemmas.Option.{slice_get_within, get_or_from_slice_get}
-use Rattle.program_terms.specs.Terms.{DefTree, def_named, is_defined, are_distinct}
+use Rattle.program_terms.specs.Terms.{DefTree, def_named, is_defined, are_defined_once}
 use Rattle.program_terms.specs.Views.{def_tree, definition_tree}
 use Rattle.program_terms.specs.declared.definitions.Def.{Def}
 
@@ -18,7 +18,7 @@ none_named name [] h = refl
 none_named name (d ∷ ds) h =
     ap (λ b. is_some (cond b (Some (def_tree d.1)) (def_named name (map definition_tree ds)))) h.0 ∙ none_named name ds h.1
 
-pub keys_distinct : (ds : List (List ℕ × Def)) → IsDistinct bytes_eq (keys_of ds) → are_distinct (map definition_tree ds) ≡ true
+pub keys_distinct : (ds : List (List ℕ × Def)) → IsDistinct bytes_eq (keys_of ds) → are_defined_once (map definition_tree ds) ≡ true
 keys_distinct [] h = refl
 keys_distinct (d ∷ ds) h =
     let head = none_named d.0 ds (IsDistinct-head bytes_eq d.0 (keys_of ds) h) in
@@ -58,14 +58,14 @@ other_name name (e ∷ ds) zero d h at =
 other_name name (e ∷ ds) (suc j) d h at = other_name name ds j d (later_undefined name e ds h) at
 
 -- the name of a definition is none of those before it
-pub not_before : (ds : List (List ℕ × DefTree)) (i : ℕ) (d : List ℕ × DefTree) → are_distinct ds ≡ true → slice_get ds i ≡ Some d
+pub not_before : (ds : List (List ℕ × DefTree)) (i : ℕ) (d : List ℕ × DefTree) → are_defined_once ds ≡ true → slice_get ds i ≡ Some d
     → is_defined d.0 (take i ds) ≡ false
 not_before [] i d h at = absurd (true≢false (sym (ap is_some at)))
 not_before (e ∷ ds) zero d h at = refl
 not_before (e ∷ ds) (suc j) d h at =
-    let apart = other_name e.0 ds j d (first_of_both (is_defined e.0 ds) (are_distinct ds) h) at in
+    let apart = other_name e.0 ds j d (first_of_both (is_defined e.0 ds) (are_defined_once ds) h) at in
     ap (λ b. is_some (cond b (Some e.1) (def_named d.0 (take j ds)))) (nat_list_eq_equiv.symm d.0 e.0 ∙ apart)
-    ∙ not_before ds j d (second_of_both (is_defined e.0 ds) (are_distinct ds) h) at
+    ∙ not_before ds j d (second_of_both (is_defined e.0 ds) (are_defined_once ds) h) at
 
 -- those before a place and the one there are those before the next place
 pub one_more : (ds : List (List ℕ × DefTree)) (i : ℕ) (d : List ℕ × DefTree) → slice_get ds i ≡ Some d → take i ds ++ d ∷ [] ≡ take (i + 1) ds

@@ -1,7 +1,7 @@
 -- The definitions on worked examples. Names are bytes: a is 97, b 98, f 102, t 116.
 use Rattle.std.proofs.Common.{◌≡◌, true, false, [], ◌∷◌, Some, None, refl}
 use lib.IntN.{pos}
-use Rattle.program_terms.specs.Terms.{unit, int, text, list, named, no_fields, more_fields, term_fields_of, field_list, id_of, each_of, rec_lens, named_lens, no_rows, both, only_left, only_right, row_both, row_left, row_right, with_row, term_rows_of, row_list, no_arms, more_arms, term_arms_of, arm_list, type_def, lens_def, def_named, is_defined, are_distinct}
+use Rattle.program_terms.specs.Terms.{unit, int, text, list, named, no_fields, more_fields, term_fields_of, type_field_list, id_of, each_of, rec_lens, named_lens, no_rows, both, only_left, only_right, row_both, row_left, row_right, with_row, term_rows_of, row_list, no_arms, more_arms, term_arms_of, arm_list, type_def, lens_def, def_named, is_defined, are_defined_once}
 
 -- ---- lists of parts, there and back
 
@@ -9,7 +9,7 @@ use Rattle.program_terms.specs.Terms.{unit, int, text, list, named, no_fields, m
 fields_in_order : term_fields_of ((97 ∷ [], int (pos 0)) ∷ (98 ∷ [], list (text [])) ∷ []) ≡ more_fields (97 ∷ []) (int (pos 0)) (more_fields (98 ∷ []) (list (text [])) no_fields)
 fields_in_order = refl
 
-fields_back : field_list (more_fields (97 ∷ []) (int (pos 0)) (more_fields (97 ∷ []) (text []) no_fields)) ≡ (97 ∷ [], int (pos 0)) ∷ (97 ∷ [], text []) ∷ []
+fields_back : type_field_list (more_fields (97 ∷ []) (int (pos 0)) (more_fields (97 ∷ []) (text []) no_fields)) ≡ (97 ∷ [], int (pos 0)) ∷ (97 ∷ [], text []) ∷ []
 fields_back = refl
 
 -- left f: unit, before a ~ b: id int
@@ -48,9 +48,9 @@ none_found = refl
 not_defined : is_defined (116 ∷ []) ((97 ∷ [], type_def (int (pos 0))) ∷ []) ≡ false
 not_defined = refl
 
-distinct : are_distinct ((97 ∷ [], type_def (int (pos 0))) ∷ (98 ∷ [], type_def (int (pos 0))) ∷ []) ≡ true
+distinct : are_defined_once ((97 ∷ [], type_def (int (pos 0))) ∷ (98 ∷ [], type_def (int (pos 0))) ∷ []) ≡ true
 distinct = refl
 
 -- a name is not defined both as a type and as a lens
-not_distinct : are_distinct ((97 ∷ [], type_def (int (pos 0))) ∷ (98 ∷ [], type_def (int (pos 0))) ∷ (97 ∷ [], lens_def (id_of (int (pos 0)))) ∷ []) ≡ false
+not_distinct : are_defined_once ((97 ∷ [], type_def (int (pos 0))) ∷ (98 ∷ [], type_def (int (pos 0))) ∷ (97 ∷ [], lens_def (id_of (int (pos 0)))) ∷ []) ≡ false
 not_distinct = refl

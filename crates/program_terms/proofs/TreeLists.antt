@@ -1,6 +1,6 @@
 -- Lists of trees, and the folds at the types that wrap a list.
 use Rattle.std.proofs.Common.{◌≡◌, ℕ, suc, List, [], ◌∷◌, length, map, rules, refl, ap, ◌∙◌}
-use Rattle.program_terms.specs.Terms.{TypeTree, LensTree, FieldTrees, no_fields, more_fields, term_fields_of, field_list, RowTree, row_both, row_left, row_right, RowTrees, no_rows, both, only_left, only_right, with_row, term_rows_of, row_list, ArmTrees, no_arms, more_arms, term_arms_of, arm_list}
+use Rattle.program_terms.specs.Terms.{TypeTree, LensTree, FieldTrees, no_fields, more_fields, term_fields_of, type_field_list, RowTree, row_both, row_left, row_right, RowTrees, no_rows, both, only_left, only_right, with_row, term_rows_of, row_list, ArmTrees, no_arms, more_arms, term_arms_of, arm_list}
 use Rattle.program_terms.specs.Views.{fields_tree, field_tree, row_tree, rows_tree, arms_tree, arm_tree}
 use Rattle.program_terms.specs.declared.types.TyExpr.{TyExpr}
 use Rattle.program_terms.specs.declared.types.TyFields.{TyFields, out-TyFields, the_lemmas as fields_lemmas}
@@ -22,11 +22,11 @@ arms_tree-out arms = search (rules, arms_lemmas)
 
 -- ---- trees and lists, there and back
 
-pub field_list-term_fields_of : (fs : List (List ℕ × TypeTree)) → field_list (term_fields_of fs) ≡ fs
+pub field_list-term_fields_of : (fs : List (List ℕ × TypeTree)) → type_field_list (term_fields_of fs) ≡ fs
 field_list-term_fields_of [] = refl
 field_list-term_fields_of (f ∷ fs) = ap (λ x. f ∷ x) (field_list-term_fields_of fs)
 
-pub term_fields_of-field_list : (fs : FieldTrees) → term_fields_of (field_list fs) ≡ fs
+pub term_fields_of-field_list : (fs : FieldTrees) → term_fields_of (type_field_list fs) ≡ fs
 term_fields_of-field_list no_fields = refl
 term_fields_of-field_list (more_fields n t fs) = ap (more_fields n t) (term_fields_of-field_list fs)
 
@@ -55,7 +55,7 @@ term_arms_of-arm_list (more_arms a b l arms) = ap (more_arms a b l) (term_arms_o
 
 -- ---- lengths
 
-pub length-field_list : (fs : List (List ℕ × TyExpr)) → length (field_list (term_fields_of (map field_tree fs))) ≡ length fs
+pub length-field_list : (fs : List (List ℕ × TyExpr)) → length (type_field_list (term_fields_of (map field_tree fs))) ≡ length fs
 length-field_list [] = refl
 length-field_list (f ∷ fs) = ap suc (length-field_list fs)
 

@@ -30,9 +30,9 @@ abbrev pub term_fields_of : List (List ℕ × TypeTree) → FieldTrees
 term_fields_of [] = no_fields
 term_fields_of (f ∷ fs) = more_fields f.0 f.1 (term_fields_of fs)
 
-abbrev pub field_list : FieldTrees → List (List ℕ × TypeTree)
-field_list no_fields = []
-field_list (more_fields n t fs) = (n, t) ∷ field_list fs
+abbrev pub type_field_list : FieldTrees → List (List ℕ × TypeTree)
+type_field_list no_fields = []
+type_field_list (more_fields n t fs) = (n, t) ∷ type_field_list fs
 
 -- the lenses in the order of the grammar; a bijection has its pairs, and the initial value on the left; a row of a
 -- record is paired, or is on one side alone; an arm of alternatives has its left tag, its right tag and its lens; a
@@ -130,6 +130,6 @@ abbrev pub is_defined : List ℕ → List (List ℕ × DefTree) → Bool
 is_defined name ds = is_some (def_named name ds)
 
 -- no two definitions have the same name
-abbrev pub are_distinct : List (List ℕ × DefTree) → Bool
-are_distinct [] = true
-are_distinct (d ∷ ds) = not (is_defined d.0 ds) && are_distinct ds
+abbrev pub are_defined_once : List (List ℕ × DefTree) → Bool
+are_defined_once [] = true
+are_defined_once (d ∷ ds) = not (is_defined d.0 ds) && are_defined_once ds

@@ -2,7 +2,7 @@
 
 ghost use Rattle.std.specs.Prelude.{◌≡◌, ◌<◌, ◌∷◌, ◌++◌, [], Some, true, false, IsErrOf, OnErr, OnOk, IfOk, IsTrue};
 ghost use Rattle.std.specs.Prelude.{option_map, slice_get, length};
-ghost use Rattle.program_terms.specs.Terms.{def_named, is_defined, are_distinct};
+ghost use Rattle.program_terms.specs.Terms.{def_named, is_defined, are_defined_once};
 ghost use Rattle.program_terms.specs.Views.{def_tree, definitions_tree};
 ghost use Rattle.program_terms.specs.declared.definitions.AddFault;
 
@@ -73,7 +73,7 @@ impl Definitions {
     /// How many definitions there are. No two of them have the same name.
     pub fn len(&self) -> usize
         ensures count { result ≡ length (definitions_tree self.now) }
-        ensures distinct { IsTrue (are_distinct (definitions_tree self.now)) }
+        ensures distinct { IsTrue (are_defined_once (definitions_tree self.now)) }
     {
         self.entries.len()
     }

@@ -1,7 +1,7 @@
 //! Complete programs.
 
 ghost use Rattle.std.specs.Prelude.{◌≡◌, ◌<◌, Some, IsTrue, option_map, slice_get, length};
-ghost use Rattle.program_terms.specs.Terms.{def_named, are_distinct};
+ghost use Rattle.program_terms.specs.Terms.{def_named, are_defined_once};
 ghost use Rattle.program_terms.specs.Views.{lens_tree, def_tree, definitions_tree, program_tree};
 
 use crate::definitions::{Def, Definitions};
@@ -29,7 +29,7 @@ impl Program {
     /// How many definitions there are. No two of them have the same name.
     pub fn count(&self) -> u64
         ensures count { result ≡ length (program_tree self.now).definitions }
-        ensures distinct { IsTrue (are_distinct (program_tree self.now).definitions) }
+        ensures distinct { IsTrue (are_defined_once (program_tree self.now).definitions) }
     {
         self.definitions.len() as u64
     }

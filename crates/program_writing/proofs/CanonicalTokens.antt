@@ -11,7 +11,7 @@ use Rattle.program_tokens.proofs.FirstToken.{Stops, stops_at_mark, stops_at_spac
 use Rattle.program_terms.specs.Terms.{TypeTree, FieldTrees, unit, bool, int, text, enum_of, record_of, one_of, list, keyed, tree, named, no_fields, more_fields, LensTree, id_of, bij_of, disc_of, then_of, rec_lens, alt_lens, each_of, keyed_each, tree_each, part_of, inv_of, named_lens, RowTrees, no_rows, both, only_left, only_right, ArmTrees, no_arms, more_arms, DefTree, type_def, lens_def, ProgramTree, initial_text, initial_member, initial_left}
 use Rattle.program_grammar.specs.declared.mention.Sort.TheVariants as sorts
 use Rattle.program_grammar.specs.Mentions.{NotedDefinition, NotedProgram, definition_without_notes, without_notes}
-use Rattle.program_grammar.specs.Spelling.{Is, OtherStrings, AreStrings, IsPair, OtherPairs, ArePairs, IsType, PerhapsFields, AreFields, OtherFields, IsLens, PerhapsRows, OtherRows, AreArms, OtherArms, IsDefinition, AreDefinitions, IsProgram}
+use Rattle.program_grammar.specs.Spelling.{Is, OtherStrings, AreStrings, IsTextPair, OtherPairs, ArePairs, IsType, PerhapsFields, AreFields, OtherFields, IsLens, PerhapsRows, OtherRows, AreArms, OtherArms, IsDefinition, AreDefinitions, IsProgram}
 use Rattle.program_writing.specs.Canonical.{put_string, put_name, put_strings, put_pairs, put_initial_number, put_initial_string, put_type, put_fields, put_lens, put_rows, put_arms, put_definition, put_definitions, canonical}
 use Rattle.program_writing.specs.Writable.{IsText, AreTexts, ArePairsOfTexts, IsNotEmpty, HasFields, HasArms, IsWritableType, AreWritableFields, IsWritableLens, AreWritableRows, AreWritableArms, IsWritableTerm, AreWritableDefinitions, IsWritable}
 use Rattle.program_writing.proofs.TextSteps.{before, Spelt, token, mark, mark_space, space_mark_space, spaced, name_text, word_then, word, word_space, string, mentioned, field, nothing, two, three, four, five, six, seven}
@@ -43,7 +43,7 @@ strings : (ms : List (List ℕ)) (rest : List ℕ) → IsNotEmpty ms → AreText
 strings [] rest some h = absurd some
 strings (m ∷ ms) rest some h = two (string m (put_strings (codes ", ") ms rest) h.0) (other_strings ms rest h.1)
 
-pair : (p : List ℕ × List ℕ) (rest : List ℕ) → IsText p.0 → IsText p.1 → Spelt (IsPair p) (put_string p.0 (codes "=" ++ put_string p.1 rest)) rest
+pair : (p : List ℕ × List ℕ) (rest : List ℕ) → IsText p.0 → IsText p.1 → Spelt (IsTextPair p) (put_string p.0 (codes "=" ++ put_string p.1 rest)) rest
 pair p rest h k = three (string p.0 (codes "=" ++ put_string p.1 rest) h) (mark marks.Equals (put_string p.1 rest)) (string p.1 rest k)
 
 other_pairs : (ps : List (List ℕ × List ℕ)) (rest : List ℕ) → ArePairsOfTexts ps → Spelt (OtherPairs ps) (put_pairs (codes ", ") ps rest) rest

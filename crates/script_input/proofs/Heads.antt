@@ -13,7 +13,7 @@ use Rattle.script_input.specs.Coming.{ended_lines, has_separator, HasLastPiece, 
 use Rattle.script_input.specs.Lines.{program_part, is_separator_line}
 use Rattle.script_input.specs.Parts.{IsHead, IsTaken, ReadsPart, ReadsAll, NotYet, StopsHead}
 use Rattle.script_input.specs.PartSteps.{IsProgramFront, MovesOn}
-use Rattle.script_input.specs.Taking.{TakenInput, IsWithin, StopsAt, TakesMore}
+use Rattle.script_input.specs.Taking.{TakenInput, IsTakenWithin, StopsAt, TakesMore}
 use Rattle.script_input.specs.declared.limits.TheConstants.{PIECE_BYTES}
 use Rattle.script_input.proofs.EndedLines.{count, few_ended}
 use Rattle.script_input.proofs.LastCalls.{but_last}
@@ -188,7 +188,7 @@ module _ {S P : Type 0} (source : OfSource.Ghosts S) (HoldsFront Holds : P → L
     }
 
 -- what the input holds behind a program part
-pub part_within : {S P : Type 0} (source : OfSource.Ghosts S) (s s' : S) (Holds : P → List ℕ → Type 0) (program : P) (input : TakenInput) → ReadsPart source s s' Holds program input → IsWithin input
+pub part_within : {S P : Type 0} (source : OfSource.Ghosts S) (s s' : S) (Holds : P → List ℕ → Type 0) (program : P) (input : TakenInput) → ReadsPart source s s' Holds program input → IsTakenWithin input
 part_within source s s' Holds program input r = (
   omega (arith, r.taken.count, r.taken.few),
   omega (arith, r.taken.count, ap count r.taken.lines, few_ended nothing_fed r.rest, length-append r.front r.rest),

@@ -16,8 +16,8 @@ pub record TakenInput : Type 0 where
   pub taken : ℕ
 
 -- no more bytes than are ever asked for, and no more lines than bytes
-abbrev pub IsWithin : TakenInput → Type 0
-IsWithin input = (input.taken ≤ MOST_BYTES + 1) × (length input.lines.ended ≤ input.taken)
+abbrev pub IsTakenWithin : TakenInput → Type 0
+IsTakenWithin input = (input.taken ≤ MOST_BYTES + 1) × (length input.lines.ended ≤ input.taken)
 
 -- This many bytes were put at the front of the piece; 0 is the end. A fault of the source, and too many bytes before,
 -- take none.

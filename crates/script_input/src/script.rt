@@ -12,7 +12,7 @@ ghost use Rattle.script_input.specs.declared.limits.TheConstants.{PIECE_BYTES};
 ghost use Rattle.lens_syntax.specs.declared.reading.TheConstants.{MOST_PROGRAM_BYTES};
 ghost use Rattle.accepted_programs.specs.Program.{IsAccepted, lens_of};
 ghost use Rattle.program_terms.specs.Views.{program_tree};
-ghost use Rattle.accepted_programs.specs.Refused.{IsKnown, IsRefusal};
+ghost use Rattle.accepted_programs.specs.Refused.{IsKnown, IsProgramRefusal};
 
 use crate::Input;
 use accepted_programs::{Accepted, Refused, read_accepted, read_lens};
@@ -83,7 +83,7 @@ impl ProgramText {
     /// bytes, else as `read_lens` of accepted_programs refuses its text.
     pub fn lens(&self, alloc: Global) -> Result<Typed, Refused>
         ensures lens { (part : List ℕ) → HoldsPart self.now part → MatchResult result
-            (λ lens. lens_of part ≡ Ok (form_tree lens)) (λ refused. IsRefusal (lens_of part) refused) }
+            (λ lens. lens_of part ≡ Ok (form_tree lens)) (λ refused. IsProgramRefusal (lens_of part) refused) }
         ensures known { IfErr result IsKnown }
     {
         if self.is_long {
@@ -96,7 +96,7 @@ impl ProgramText {
 /// The program of a program part, and its lens, or why the part is refused: as [`ProgramText::lens`] refuses it.
 pub fn accepted_part(alloc: Global, part: &ProgramText) -> Result<Accepted, Refused>
     ensures accepted { (bytes : List ℕ) → HoldsPart part.now bytes → MatchResult result
-        (λ a. IsAccepted bytes (program_tree a.program) (form_tree a.lens)) (IsRefusal (lens_of bytes)) }
+        (λ a. IsAccepted bytes (program_tree a.program) (form_tree a.lens)) (IsProgramRefusal (lens_of bytes)) }
     ensures known { IfErr result IsKnown }
 {
     match part.text() {

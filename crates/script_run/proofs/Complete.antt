@@ -7,7 +7,7 @@ use Rattle.script_input.specs.declared.limits.TheConstants.{MOST_BYTES}
 use Rattle.script_input.specs.Lines.{program_part}
 use Rattle.script_run.specs.ScriptEnds.{Ended, IsCleanStop, IsComplete}
 use Rattle.script_run.specs.declared.script_state.ScriptState as OfScript
-use Rattle.command_ends.specs.Statuses.{IsAmong, script_statuses}
+use Rattle.command_ends.specs.Statuses.{IsStatusAmong, script_statuses}
 use Rattle.command_ends.specs.declared.status.Status.{Status}
 use Rattle.command_ends.specs.declared.status.Status.TheVariants.{Done, SomeRefused, Usage, ProgramRefused, StoreRefused, SourceFault, SinkFault, DiskFault, InputTooLong, NoMemory}
 use Rattle.script_input.proofs.TakenParts.{few_taken, fixed_or_read, part_of_all, all_taken}
@@ -18,9 +18,9 @@ one_outcome r s program refusal same some none = cc
 
 -- the statuses by which a call ends
 module _ {H S K : Type 0} (script : OfScript.Ghosts H) (source : OfSource.Ghosts S) (sink : OfSink.Ghosts K) (old new : S × K) where
-  pub ends_among : (status : Status) → Ended script source sink old new status → IsAmong script_statuses status
+  pub ends_among : (status : Status) → Ended script source sink old new status → IsStatusAmong script_statuses status
   ends_among status e = by_clean status e.stops.clean where
-    by_clean : (status : Status) → IsCleanStop script source sink old new e.stops.bytes status → IsAmong script_statuses status
+    by_clean : (status : Status) → IsCleanStop script source sink old new e.stops.bytes status → IsStatusAmong script_statuses status
     by_clean Done clean = inl refl
     by_clean SomeRefused clean = inr (inl refl)
     by_clean Usage clean = absurd clean

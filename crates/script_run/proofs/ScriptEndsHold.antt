@@ -1,5 +1,5 @@
 -- What stands at each end of a call over a script.
-use Rattle.command_ends.specs.Statuses.{IsFinished, end_of}
+use Rattle.command_ends.specs.Statuses.{IsFinished, status_at_end}
 use Rattle.std.proofs.Common.{◌≡◌, ◌⊎◌, inl, inr, ℕ, ◌+◌, ◌<◌, ◌≤◌, List, [], ◌++◌, length, Bool, true, false, Option, Some, None, option_map, Result, Ok, Err, refl, sym, ap, ap₂, subst, ◌∙◌, append-nil, append_assoc, arith}
 use Rattle.std.specs.Prelude.{IfOk}
 use Rattle.std.specs.declared.alloc.AllocError.{AllocError}
@@ -34,7 +34,7 @@ use Rattle.script_input.proofs.TakenParts.{none_behind}
 
 -- ---- statuses
 
-finished : (b : Bool) → IsFinished (end_of b)
+finished : (b : Bool) → IsFinished (status_at_end b)
 finished true = inr refl
 finished false = inl refl
 

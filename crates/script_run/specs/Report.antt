@@ -4,7 +4,7 @@ use Rattle.std.specs.Prelude.{ℕ, List, ◌++◌, Option, Some, option_map, Res
 use Rattle.edit_journal.specs.declared.line.Line.{Line}
 use Rattle.script_run.specs.LineRuns.{Written, written}
 use Rattle.script_input.specs.Lines.{program_part, journal}
-use Rattle.command_ends.specs.Statuses.{end_of}
+use Rattle.command_ends.specs.Statuses.{status_at_end}
 use Rattle.script_run.specs.declared.script_state.ScriptState as OfScript
 use Rattle.command_ends.specs.declared.status.Status.{Status}
 use Rattle.command_ends.specs.declared.status.Status.TheVariants.{ProgramRefused}
@@ -12,7 +12,7 @@ use Rattle.command_ends.specs.declared.status.Status.TheVariants.{ProgramRefused
 module _ {H : Type 0} (script : OfScript.Ghosts H) where
   -- the answer lines of a run and the state lines of its last state, and its status
   abbrev pub with_state : Written script.State → List ℕ × Status
-  with_state w = (w.0 ++ script.state_text w.2, end_of w.1)
+  with_state w = (w.0 ++ script.state_text w.2, status_at_end w.1)
 
   -- the report of the run over these lines
   abbrev pub run_report : script.State → List Line → Option (List ℕ × Status)

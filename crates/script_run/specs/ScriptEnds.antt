@@ -125,7 +125,9 @@ module _ {H S K : Type 0} (script : OfScript.Ghosts H) (source : OfSource.Ghosts
     pub read : IsRead source old.0 new.0
     -- they are not too many
     pub within : length bytes ≤ MOST_BYTES
-    -- their report was written, and it has this status
+    -- Their report was written, and it has this status. That there is a report says also that each translation applied to
+    -- its document: a step whose translation does not has no value (`after_carrying` in edit_session/specs/Step.antt), and
+    -- a run with such a step has no report.
     pub text : List ℕ
     pub is_report : report script bytes ≡ Some (text, status)
     pub gave : Gave sink old.1 new.1 text

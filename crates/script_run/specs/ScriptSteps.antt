@@ -9,7 +9,7 @@ use Rattle.edit_journal.specs.declared.line.Line.{Line}
 use Rattle.script_run.specs.LineRuns.{GoesOver}
 use Rattle.script_run.specs.declared.progress.Progress.{Progress}
 use Rattle.script_run.specs.Report.{report_with}
-use Rattle.command_ends.specs.Statuses.{IsFinished, end_of}
+use Rattle.command_ends.specs.Statuses.{IsFinished, status_at_end}
 use Rattle.script_run.specs.declared.report.Report.{Report}
 use Rattle.script_run.specs.declared.script_state.NotOpened.{NotOpened}
 use Rattle.script_run.specs.declared.script_state.NotOpened.TheVariants as opening
@@ -43,7 +43,7 @@ module _ {H : Type 0} (script : OfScript.Ghosts H) where
     pub progress : Progress
     pub goes : GoesOver script.answer t p (option_to_list (last_line begun)) state progress
     pub text : r.text.items ≡ progress.text.items ++ script.state_text state
-    pub status : r.status ≡ end_of progress.refused
+    pub status : r.status ≡ status_at_end progress.refused
 
   -- ---- a program part that is opened. What it means, or why it is refused, is given.
 

@@ -1,7 +1,7 @@
 //! The journal of a script.
 ghost use Rattle.std.specs.Prelude.{◌≡◌, ◌<◌, ◌≤◌, List, ℕ, Ok, length};
 ghost use Rattle.lens_io.specs.Calls.{SourceFailed, SinkFailed};
-ghost use Rattle.script_input.specs.Taking.{IsWithin};
+ghost use Rattle.script_input.specs.Taking.{IsTakenWithin};
 ghost use Rattle.script_input.specs.declared.limits.TheConstants.{PIECE_BYTES};
 ghost use Rattle.script_input.specs.Parts.{IsTaken, IsHead};
 ghost use Rattle.script_run.specs.ScriptEnds.{Ended, EveryRunStaysInStep};
@@ -29,7 +29,7 @@ pub fn answer_script<S: Source, K: Sink, A: ScriptState>(
 ) -> Status
     requires some { 0 < length piece.old }
     requires few { length piece.old ≤ PIECE_BYTES }
-    requires within { IsWithin input }
+    requires within { IsTakenWithin input }
     requires in_step { EveryRunStaysInStep A.ScriptState }
     ensures ended { (start : S) (front rest part : List ℕ) (program : A.Accepted)
         → IsTaken S.Source start source.old input front rest → IsHead front part
@@ -57,7 +57,7 @@ fn answer_lines<S: Source, K: Sink, A: ScriptState>(
 ) -> Status
     requires some { 0 < length piece.old }
     requires few { length piece.old ≤ PIECE_BYTES }
-    requires within { IsWithin input }
+    requires within { IsTakenWithin input }
     requires in_step { EveryRunStaysInStep A.ScriptState }
     ensures ended { (start : S) (front rest part : List ℕ) (program : A.Accepted)
         → IsTaken S.Source start source.old input front rest → IsHead front part

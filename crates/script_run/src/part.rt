@@ -1,7 +1,7 @@
 //! What comes once the program part of a script was read.
 ghost use Rattle.std.specs.Prelude.{◌≡◌, ◌<◌, ◌≤◌, List, ℕ, length};
 ghost use Rattle.lens_io.specs.Calls.{SourceFailed, SinkFailed};
-ghost use Rattle.script_input.specs.Taking.{IsWithin};
+ghost use Rattle.script_input.specs.Taking.{IsTakenWithin};
 ghost use Rattle.script_input.specs.declared.limits.TheConstants.{PIECE_BYTES};
 ghost use Rattle.script_input.specs.Parts.{IsTaken, IsHead};
 ghost use Rattle.script_run.specs.ScriptEnds.{Ended, EveryRunStaysInStep};
@@ -36,7 +36,7 @@ pub fn answer_part<S: Source, K: Sink, A: ScriptState>(
 ) -> Status
     requires some { 0 < length piece.old }
     requires few { length piece.old ≤ PIECE_BYTES }
-    requires within { IsWithin input }
+    requires within { IsTakenWithin input }
     requires in_step { EveryRunStaysInStep A.ScriptState }
     ensures ended { (start : S) (front rest part : List ℕ)
         → IsTaken S.Source start source.old input front rest → IsHead front part

@@ -1,5 +1,5 @@
 //! A command over a script whose program part is one program.
-ghost use Rattle.command_ends.specs.Statuses.{IsAmong, script_statuses};
+ghost use Rattle.command_ends.specs.Statuses.{IsStatusAmong, script_statuses};
 ghost use Rattle.std.specs.Prelude.{◌≡◌, ◌≤◌, ℕ, List, IfSome, length};
 ghost use Rattle.script_input.specs.declared.limits.TheConstants.{MOST_BYTES};
 ghost use Rattle.lens_io.specs.Calls.{SourceFailed, SinkFailed};
@@ -50,7 +50,7 @@ pub fn run_script<S: Source, K: Sink, A: ProgramScript>(
     ensures completes { IfSome (S.left source.old) (λ bytes. length bytes ≤ MOST_BYTES
         → (SourceFailed S.Source source.old source.new → ⊥) → (SinkFailed K.Sink sink.old sink.new → ⊥)
         → IsComplete A.ScriptState bytes result) }
-    ensures statuses { IsAmong script_statuses result }
+    ensures statuses { IsStatusAmong script_statuses result }
     ensures source_fault { result ≡ Status.SourceFault → SourceFailed S.Source source.old source.new }
     ensures sink_fault { result ≡ Status.SinkFault → SinkFailed K.Sink sink.old sink.new }
 {

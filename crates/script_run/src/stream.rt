@@ -4,7 +4,7 @@ ghost use Rattle.std.specs.Prelude.{OnErr};
 ghost use Rattle.lens_io.specs.Calls.{SinkFailed};
 ghost use Rattle.lens_io.specs.Causes.{Increased};
 ghost use Rattle.lens_io.specs.Content.{AppendsFront};
-ghost use Rattle.script_input.specs.Taking.{GaveFew, IsWithin};
+ghost use Rattle.script_input.specs.Taking.{GaveFew, IsTakenWithin};
 ghost use Rattle.script_input.specs.declared.limits.TheConstants.{MOST_BYTES, MOST_KEPT};
 ghost use Rattle.script_run.specs.LineEnds.{GivesAnswers, WritesPart, AnswersLines, StopsLines, AnswersPiece};
 ghost use Rattle.script_run.specs.LineEnds.{AnswersPieces};
@@ -39,7 +39,7 @@ pub fn answer_pieces<S: Source, K: Sink, A: LineAnswers>(
     sink: &mut K,
 ) -> Result<Progress, Stopped>
     requires some { 0 < length piece.old }
-    requires within { IsWithin input.old }
+    requires within { IsTakenWithin input.old }
     ensures answers { AnswersPieces A.answer S.Source K.Sink
         (record { source = source.old; sink = sink.old; input = input.old; state = A.state state.old })
         (record { source = source.new; sink = sink.new; input = input.new; state = A.state state.new }) result }

@@ -14,7 +14,7 @@ use Rattle.hold_shapes.specs.declared.edit.ShapeEdit.{ShapeEdit}
 use Rattle.hold_shapes.specs.declared.edit.ShapeEdit.TheVariants.{Ins, Del, MoveItem, Reorder, PutKey, DropKey, RenameKey, Graft, Prune, Shift, Hang}
 use Rattle.hold_shapes.specs.Causes.{PlanCause, Place, Range, Deep}
 use Rattle.hold_shapes.specs.Gather.{content_at}
-use Rattle.texts.specs.Keys.{key_from, key_place, rank}
+use Rattle.texts.specs.Keys.{key_from, key_place, key_rank}
 use Rattle.hold_shapes.specs.Trees.{node, node_from, children, child, child_at, child_from, end_of, descendants}
 use Rattle.hold_shapes.specs.Plans.{Planned, old_places, at_place, put_key, drop_key, rename_to, rename_key, plan_keyed, remove_part, insert_part, move_part, graft, prune, prune_child, place_for_child, shift_child, shift, moved_depths, all_at_most, hang_depths, hang_below, hang_at, hang, plan_list, plan_tree, plan}
 use Rattle.shape_laws.specs.Laws.{renamed_at, names_after, fresh_name, hung_below, hung_at, depths_after, depth_below, fresh_depth, MovesNames, MovesDepths, KeepsContent}
@@ -117,7 +117,7 @@ of-else P false x fault f = f refl
 
 of-put : (ks : List (List ℕ)) (k : List ℕ) (o : Option ℕ) → OfPlan (MovesNames ks k) (put_key ks k o)
 of-put ks k (Some p) = tt
-of-put ks k None = content-insert (List ℕ) k ks (length ks) (rank k ks) Fresh refl
+of-put ks k None = content-insert (List ℕ) k ks (length ks) (key_rank k ks) Fresh refl
 
 of-drop : (ks : List (List ℕ)) (o : Option ℕ) → OfPlan (MovesNames ks []) (drop_key ks o)
 of-drop ks None = tt
@@ -135,12 +135,12 @@ of-rename-to ks m p None h =
     let named = set ks p m in
     let n : length ks ≡ length named = sym (length-set ks p m) in
     let here : get_or named p [] ≡ m = get_or-set_same ks p m [] h in
-    let outer = map-insert Origin (List ℕ) (content_at named []) (remove (old_places (length ks)) p) (rank m (remove ks p)) (Old p) in
+    let outer = map-insert Origin (List ℕ) (content_at named []) (remove (old_places (length ks)) p) (key_rank m (remove ks p)) (Old p) in
     let inner = content-remove (List ℕ) [] named (length ks) p n in
     let bare = remove-set (List ℕ) ks p m in
     let both : remove ks p ≡ map (content_at named []) (remove (old_places (length ks)) p) = sym bare ∙ inner in
-    sym (outer ∙ (ap (λ (x : List ℕ). insert (map (content_at named []) (remove (old_places (length ks)) p)) (rank m (remove ks p)) x) here
-    ∙ ap (λ (l : List (List ℕ)). insert l (rank m (remove ks p)) m) (sym both)))
+    sym (outer ∙ (ap (λ (x : List ℕ). insert (map (content_at named []) (remove (old_places (length ks)) p)) (key_rank m (remove ks p)) x) here
+    ∙ ap (λ (l : List (List ℕ)). insert l (key_rank m (remove ks p)) m) (sym both)))
 
 pub least-step : (b : Bool) (at p : ℕ) (o : Option ℕ) → (o ≡ Some p → at + 1 ≤ p) → (if b then Some at else o) ≡ Some p → at ≤ p
 least-step true at p o f h = let e : at ≡ p = cc in omega arith

@@ -14,7 +14,7 @@ use Rattle.hold_shapes.specs.declared.origins.Origin.TheVariants.{Old, Fresh}
 use Rattle.hold_shapes.specs.declared.edit.ShapeEdit.{ShapeEdit}
 use Rattle.hold_shapes.specs.declared.edit.ShapeEdit.TheVariants.{Ins, Del, MoveItem, Reorder, PutKey, DropKey, RenameKey, Graft, Prune, Shift, Hang}
 use Rattle.hold_shapes.specs.Causes.{PlanCause, Place, Range, Length, Deep}
-use Rattle.texts.specs.Keys.{key_place, key_from, rank}
+use Rattle.texts.specs.Keys.{key_place, key_from, key_rank}
 use Rattle.hold_shapes.specs.Trees.{node, children, child, end_of}
 use Rattle.hold_shapes.specs.Shapes.{size_of}
 use Rattle.hold_shapes.specs.Plans.{Planned, old_places, list_of, is_count, is_each_new, at_place, put_key, drop_key, rename_to, rename_key, remove_part, graft, prune, prune_child, place_for_child, shift_child, shift, allowed_depths, hang_depths, hang_below, hang_at, hang, plan_list, plan_keyed, plan_tree, plan}
@@ -96,7 +96,7 @@ key-within at p k (m ∷ ms) h = within-step (bytes_eq k m) at p (length ms) (ke
 
 of-put : (ks : List (List ℕ)) (k : List ℕ) (o : Option ℕ) → Keeps (Inserts (length ks)) (put_key ks k o)
 of-put ks k (Some p) = tt
-of-put ks k None = inserted (length ks) (rank k ks)
+of-put ks k None = inserted (length ks) (key_rank k ks)
 
 of-drop : (ks : List (List ℕ)) (k : List ℕ) (o : Option ℕ) → key_place k ks ≡ o → Keeps (Deletes (length ks)) (drop_key ks o)
 of-drop ks k None h = tt
@@ -104,7 +104,7 @@ of-drop ks k (Some p) h = let lt = key-within 0 p k ks h in removed (length ks) 
 
 of-rename-to : (ks : List (List ℕ)) (m : List ℕ) (p : ℕ) (o : Option ℕ) → p < length ks → Keeps (Rearranges (length ks)) (rename_to ks m p o)
 of-rename-to ks m p (Some q) h = tt
-of-rename-to ks m p None h = replaced (length ks) p (rank m (remove ks p)) h
+of-rename-to ks m p None h = replaced (length ks) p (key_rank m (remove ks p)) h
 
 of-same : (b : Bool) (ks : List (List ℕ)) (m : List ℕ) (p : ℕ) → p < length ks
     → Keeps (Rearranges (length ks)) (if b then Ok (KeyedOf ks, old_places (length ks)) else rename_to ks m p (key_place m ks))

@@ -13,7 +13,7 @@ use Rattle.hold_shapes.specs.declared.origins.Origin.TheVariants.{Old, Fresh}
 use Rattle.hold_shapes.specs.declared.edit.ShapeEdit.{ShapeEdit}
 use Rattle.hold_shapes.specs.declared.edit.ShapeEdit.TheVariants.{Ins, Del, MoveItem, Reorder, PutKey, DropKey, RenameKey, Graft, Prune, Shift, Hang}
 use Rattle.hold_shapes.specs.Causes.{PlanCause, Place, Range, Length, Deep}
-use Rattle.texts.specs.Keys.{key_place, rank}
+use Rattle.texts.specs.Keys.{key_place, key_rank}
 use Rattle.hold_shapes.specs.Trees.{node, children, child, end_of}
 use Rattle.hold_shapes.specs.Shapes.{size_of}
 use Rattle.hold_shapes.specs.Plans.{Planned, old_places, list_of, is_count, is_each_new, at_place, put_key, drop_key, rename_to, rename_key, remove_part, insert_part, move_part, graft, prune, prune_child, place_for_child, shift_child, shift, moved_depths, all_at_most, hang_depths, hang_below, hang_at, hang, plan_list, plan_keyed, plan_tree, plan}
@@ -93,7 +93,7 @@ of-list l n (Hang p q) k s = tt
 
 of-put : (ks : List (List ℕ)) (k : List ℕ) (o : Option ℕ) → FitsOf (KeyedOf ks) (put_key ks k o)
 of-put ks k (Some p) = tt
-of-put ks k None = (same-insert Origin (List ℕ) (old_places (length ks)) ks (rank k ks) Fresh k (length-old_places (length ks)), refl)
+of-put ks k None = (same-insert Origin (List ℕ) (old_places (length ks)) ks (key_rank k ks) Fresh k (length-old_places (length ks)), refl)
 
 of-drop : (ks : List (List ℕ)) (k : List ℕ) (o : Option ℕ) → key_place k ks ≡ o → FitsOf (KeyedOf ks) (drop_key ks o)
 of-drop ks k None h = tt
@@ -103,7 +103,7 @@ of-drop ks k (Some p) h =
 of-rename-to : (ks : List (List ℕ)) (m : List ℕ) (p : ℕ) (o : Option ℕ) → p < length ks → FitsOf (KeyedOf ks) (rename_to ks m p o)
 of-rename-to ks m p (Some q) h = tt
 of-rename-to ks m p None h = (
-  same-insert Origin (List ℕ) (remove (old_places (length ks)) p) (remove ks p) (rank m (remove ks p)) (Old p) m
+  same-insert Origin (List ℕ) (remove (old_places (length ks)) p) (remove ks p) (key_rank m (remove ks p)) (Old p) m
       (same-remove Origin (List ℕ) (old_places (length ks)) ks p h (length-old_places (length ks))),
   refl,
 )

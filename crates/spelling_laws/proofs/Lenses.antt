@@ -8,13 +8,13 @@ use Rattle.program_tokens.specs.declared.mark.Mark.TheVariants as marks
 use Rattle.program_tokens.specs.declared.token.Token.{Token}
 use Rattle.program_tokens.specs.declared.token.Token.TheVariants as tokens
 use Rattle.program_tokens.specs.declared.token.PlacedToken.{PlacedToken}
-use Rattle.program_terms.specs.Terms.{TypeTree, term_fields_of, field_list, LensTree, id_of, bij_of, disc_of, then_of, rec_lens, alt_lens, each_of, keyed_each, tree_each, part_of, inv_of, named_lens, term_rows_of, row_list, term_arms_of, arm_list, initial_left}
+use Rattle.program_terms.specs.Terms.{TypeTree, term_fields_of, type_field_list, LensTree, id_of, bij_of, disc_of, then_of, rec_lens, alt_lens, each_of, keyed_each, tree_each, part_of, inv_of, named_lens, term_rows_of, row_list, term_arms_of, arm_list, initial_left}
 use Rattle.program_grammar.specs.declared.mention.Mention.{Mention}
 use Rattle.program_grammar.specs.declared.mention.Sort.TheVariants as sorts
 use Rattle.program_terms.proofs.TreeLists.{term_fields_of-field_list, term_arms_of-arm_list, term_rows_of-row_list}
 use Rattle.program_grammar.specs.Mentions.{Point, mention}
 use Rattle.program_grammar.specs.Reading.{Read, ◌>>=◌, string_at, initial_at, typed_at, closed_at, perhaps_at, type_at, pair_at, bij_at, arm_at, row_at, then_at, disc_at, part_at, word_lens, rec_at, alt_at, mark_lens, begun_lens, lens_from, lens_step, lens_at}
-use Rattle.program_grammar.specs.Spelling.{Is, IsPair, IsInitial, IsType, IsLens}
+use Rattle.program_grammar.specs.Spelling.{Is, IsTextPair, IsInitial, IsType, IsLens}
 use Rattle.program_grammar.proofs.ReadingResults.{done}
 use Rattle.spelling_laws.proofs.ReadingSteps.{ComesBefore, onward, is_ahead, Anything, NoEquals, Exact, read_as, read_first, made_of}
 use Rattle.spelling_laws.proofs.Marks.{before, it_is, point_is, mention_ahead, mark_again, mark_first, other_mark}
@@ -47,7 +47,7 @@ lens_moves n type inner e (each_of l) here there h = onward (is_ahead h.1) (e.le
 lens_moves n type inner e (keyed_each l) here there h = onward (is_ahead h.1) (e.lenses.moves l h.0 there h.2)
 lens_moves n type inner e (tree_each l) here there h = onward (is_ahead h.1) (e.lenses.moves l h.0 there h.2)
 lens_moves n type inner e (part_of fs) here there h =
-    onward (is_ahead h.3) (onward (is_ahead h.4) ((part_fields n type e.types).moves (field_list fs) h.1 there (h.2, fields_are_listed n fs h.1 h.2 h.5, h.6)))
+    onward (is_ahead h.3) (onward (is_ahead h.4) ((part_fields n type e.types).moves (type_field_list fs) h.1 there (h.2, fields_are_listed n fs h.1 h.2 h.5, h.6)))
 lens_moves n type inner e (inv_of l) here there h = onward (is_ahead h.1) (e.lenses.moves l h.0 there h.2)
 lens_moves n type inner e (named_lens s) here there h = mention_ahead h
 
@@ -60,7 +60,7 @@ bij_found : (n at : ℕ) → Begun n (tokens.Keyword words.Bij) at bij_at
 unfolding bij_at
 bij_found n at here x h =
     mark_first OpenBracket here _ x _ h (λ a opens h.
-    read_first (Closed IsPair CloseBracket) (closed_at pair_at CloseBracket) pairs_exact a _ x _ h (λ ps pairs h.
+    read_first (Closed IsTextPair CloseBracket) (closed_at pair_at CloseBracket) pairs_exact a _ x _ h (λ ps pairs h.
     made_of (IsInitial tokens.Text (initial_left ps.0)) (initial_at string_at (initial_left ps.0)) (initial_string_exact (initial_left ps.0)) (IsLens (suc n)) (bij_of ps.0) (before (tokens.Keyword words.Bij) at here) ps.1 x h (λ m there so.
     (here, a, pairs.0, ps.1, it_is (tokens.Keyword words.Bij) at here, opens, listed_are_pairs ps.0 a pairs.0 pairs.1, pairs.2, so))))
 
@@ -159,7 +159,7 @@ lens_again n type inner e (keyed_each l) here there h behind = ap (lens_step typ
 lens_again n type inner e (tree_each l) here there h behind = ap (lens_step type inner) (point_is h.1) ∙ rw (e.lenses.again l h.0 there h.2 behind) refl
 lens_again n type inner e (part_of fs) here there h behind =
     ap (lens_step type inner) (point_is h.3)
-    ∙ rw (mark_again Less h.0 h.1 h.4, (part_fields n type e.types).again (field_list fs) h.1 there (h.2, fields_are_listed n fs h.1 h.2 h.5, h.6) tt, term_fields_of-field_list fs) refl
+    ∙ rw (mark_again Less h.0 h.1 h.4, (part_fields n type e.types).again (type_field_list fs) h.1 there (h.2, fields_are_listed n fs h.1 h.2 h.5, h.6) tt, term_fields_of-field_list fs) refl
 lens_again n type inner e (inv_of l) here there h behind = ap (lens_step type inner) (point_is h.1) ∙ rw (e.lenses.again l h.0 there h.2 behind) refl
 lens_again n type inner e (named_lens s) here there h behind =
     ap (λ (ts : List PlacedToken). lens_step type inner (here.0, ts)) h.parts ∙ ap (λ (ms : List Mention). done (named_lens s, (ms, there.1))) (sym h.names)

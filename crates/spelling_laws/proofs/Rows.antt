@@ -10,7 +10,7 @@ use Rattle.program_terms.specs.Terms.{TypeTree, LensTree, RowTree, row_both, row
 use Rattle.program_grammar.specs.declared.mention.Mention.{Mention}
 use Rattle.program_grammar.specs.Mentions.{Point}
 use Rattle.program_grammar.specs.Reading.{Read, next_is, word_in, next_word, string_at, field_at, typed_at, closed_at, perhaps_at, pair_at, arm_at, left_row_at, right_row_at, both_row_at, row_by, row_at}
-use Rattle.program_grammar.specs.Spelling.{Is, IsField, IsPair, OtherPairs, ArePairs, IsType, IsLens, PerhapsRows, OtherRows, AreArms, OtherArms}
+use Rattle.program_grammar.specs.Spelling.{Is, IsField, IsTextPair, OtherPairs, ArePairs, IsType, IsLens, PerhapsRows, OtherRows, AreArms, OtherArms}
 use Rattle.spelling_laws.proofs.ReadingSteps.{ComesBefore, onward, is_ahead, Anything, NoEquals, Exact, read_as, read_first, made_of}
 use Rattle.spelling_laws.proofs.Marks.{before, it_is, point_is, mark_again, mark_first, IsText, string_exact, field_exact, field_again, field_no_mark}
 use Rattle.spelling_laws.proofs.Lists.{Others, Listed, Closed, Perhaps, closed_exact, perhaps_exact}
@@ -18,43 +18,43 @@ use Rattle.spelling_laws.proofs.Types.{Typed, typed_exact}
 
 -- pairs of strings
 
-pair_found : (here : Point) (x : (List ℕ × List ℕ) × Point) → pair_at here ≡ Ok x → IsPair x.0 here x.1
+pair_found : (here : Point) (x : (List ℕ × List ℕ) × Point) → pair_at here ≡ Ok x → IsTextPair x.0 here x.1
 unfolding pair_at
 pair_found here x h =
     read_first IsText string_at string_exact here _ x _ h (λ s one h.
     mark_first Equals s.1 _ x _ h (λ a equals h.
     read_first IsText string_at string_exact a _ x _ h (λ t other h.
-    read_as IsPair here ((s.0, t.0), t.1) x h (s.1, a, one, equals, other))))
+    read_as IsTextPair here ((s.0, t.0), t.1) x h (s.1, a, one, equals, other))))
 
-pair_again : (p : List ℕ × List ℕ) (here there : Point) → IsPair p here there → pair_at here ≡ Ok (p, there)
+pair_again : (p : List ℕ × List ℕ) (here there : Point) → IsTextPair p here there → pair_at here ≡ Ok (p, there)
 unfolding pair_at
 pair_again p here there h = rw (string_exact.again p.0 here h.0 h.2 tt, mark_again Equals h.0 h.1 h.3, string_exact.again p.1 h.1 there h.4 tt) refl
 
-pair_exact : Exact IsPair NoEquals pair_at
+pair_exact : Exact IsTextPair NoEquals pair_at
 pair_exact = record {
   moves = λ p here there h. onward (is_ahead h.2) (onward (is_ahead h.3) (is_ahead h.4));
   found = pair_found;
   again = λ p here there h behind. pair_again p here there h;
 }
 
-others_are_pairs : (ps : List (List ℕ × List ℕ)) (here there : Point) → Others IsPair ps here there → OtherPairs ps here there
+others_are_pairs : (ps : List (List ℕ × List ℕ)) (here there : Point) → Others IsTextPair ps here there → OtherPairs ps here there
 others_are_pairs [] here there h = h
 others_are_pairs (p ∷ ps) here there h = (h.0, h.1, h.2, h.3, others_are_pairs ps h.1 there h.4)
 
-pub listed_are_pairs : (ps : List (List ℕ × List ℕ)) (here there : Point) → Listed IsPair ps here there → ArePairs ps here there
+pub listed_are_pairs : (ps : List (List ℕ × List ℕ)) (here there : Point) → Listed IsTextPair ps here there → ArePairs ps here there
 listed_are_pairs [] here there h = h
 listed_are_pairs (p ∷ ps) here there h = (h.0, h.1, others_are_pairs ps h.0 there h.2)
 
-pairs_are_others : (ps : List (List ℕ × List ℕ)) (here there : Point) → OtherPairs ps here there → Others IsPair ps here there
+pairs_are_others : (ps : List (List ℕ × List ℕ)) (here there : Point) → OtherPairs ps here there → Others IsTextPair ps here there
 pairs_are_others [] here there h = h
 pairs_are_others (p ∷ ps) here there h = (h.0, h.1, h.2, h.3, pairs_are_others ps h.1 there h.4)
 
-pub pairs_are_listed : (ps : List (List ℕ × List ℕ)) (here there : Point) → ArePairs ps here there → Listed IsPair ps here there
+pub pairs_are_listed : (ps : List (List ℕ × List ℕ)) (here there : Point) → ArePairs ps here there → Listed IsTextPair ps here there
 pairs_are_listed [] here there h = h
 pairs_are_listed (p ∷ ps) here there h = (h.0, h.1, pairs_are_others ps h.0 there h.2)
 
-pub pairs_exact : Exact (Closed IsPair CloseBracket) Anything (closed_at pair_at CloseBracket)
-pairs_exact = closed_exact IsPair pair_at CloseBracket (refl, refl) pair_exact
+pub pairs_exact : Exact (Closed IsTextPair CloseBracket) Anything (closed_at pair_at CloseBracket)
+pairs_exact = closed_exact IsTextPair pair_at CloseBracket (refl, refl) pair_exact
 
 -- arms: two fields and a lens
 

@@ -8,7 +8,7 @@ use Rattle.program_tokens.specs.declared.mark.Mark.TheVariants as marks
 use Rattle.program_tokens.specs.declared.token.Token.{Token}
 use Rattle.program_tokens.specs.declared.token.Token.TheVariants as tokens
 use Rattle.program_tokens.specs.declared.token.PlacedToken.{PlacedToken}
-use Rattle.program_terms.specs.Terms.{TypeTree, FieldTrees, unit, bool, int, text, enum_of, record_of, one_of, list, keyed, tree, named, no_fields, more_fields, term_fields_of, field_list, initial_number, initial_text, initial_member}
+use Rattle.program_terms.specs.Terms.{TypeTree, FieldTrees, unit, bool, int, text, enum_of, record_of, one_of, list, keyed, tree, named, no_fields, more_fields, term_fields_of, type_field_list, initial_number, initial_text, initial_member}
 use Rattle.program_grammar.specs.declared.mention.Mention.{Mention}
 use Rattle.program_grammar.specs.declared.mention.Sort.TheVariants as sorts
 use Rattle.program_terms.proofs.TreeLists.{term_fields_of-field_list}
@@ -76,11 +76,11 @@ pub listed_are_fields : (n : ℕ) (fs : List (List ℕ × TypeTree)) (here there
 listed_are_fields n [] here there h = h
 listed_are_fields n (f ∷ fs) here there h = (h.1.0, h.1.1, h.0, h.1.2, h.1.3, h.1.4, others_are_fields n fs h.0 there h.2)
 
-fields_are_others : (n : ℕ) (fs : FieldTrees) (here there : Point) → OtherFields n fs here there → Others (Typed (IsType n)) (field_list fs) here there
+fields_are_others : (n : ℕ) (fs : FieldTrees) (here there : Point) → OtherFields n fs here there → Others (Typed (IsType n)) (type_field_list fs) here there
 fields_are_others n no_fields here there h = h
 fields_are_others n (more_fields f t fs) here there h = (h.0, h.3, h.4, (h.1, h.2, h.5, h.6, h.7), fields_are_others n fs h.3 there h.8)
 
-pub fields_are_listed : (n : ℕ) (fs : FieldTrees) (here there : Point) → AreFields n fs here there → Listed (Typed (IsType n)) (field_list fs) here there
+pub fields_are_listed : (n : ℕ) (fs : FieldTrees) (here there : Point) → AreFields n fs here there → Listed (Typed (IsType n)) (type_field_list fs) here there
 fields_are_listed n no_fields here there h = h
 fields_are_listed n (more_fields f t fs) here there h = (h.2, (h.0, h.1, h.3, h.4, h.5), fields_are_others n fs h.2 there h.6)
 
@@ -91,7 +91,7 @@ perhaps_are_fields : (n : ℕ) (fs : List (List ℕ × TypeTree)) (here there : 
 perhaps_are_fields n [] here there h = (here, refl, h)
 perhaps_are_fields n (f ∷ fs) here there h = (h.0, listed_are_fields n (f ∷ fs) here h.0 h.1, h.2)
 
-fields_are_perhaps : (n : ℕ) (fs : FieldTrees) (here there : Point) → BracedFields n fs here there → Perhaps (Typed (IsType n)) CloseBrace (field_list fs) here there
+fields_are_perhaps : (n : ℕ) (fs : FieldTrees) (here there : Point) → BracedFields n fs here there → Perhaps (Typed (IsType n)) CloseBrace (type_field_list fs) here there
 fields_are_perhaps n no_fields here there h = subst (λ p. Is (tokens.Mark CloseBrace) p there) (sym h.1) h.2
 fields_are_perhaps n (more_fields f t fs) here there h = (h.0, fields_are_listed n (more_fields f t fs) here h.0 h.1, h.2)
 
@@ -110,8 +110,8 @@ type_moves n inner e (int z) here there h = onward (is_ahead h.1) ((initial_numb
 type_moves n inner e (text s) here there h = onward (is_ahead h.1) ((initial_string_exact initial_text).moves s h.0 there h.2)
 type_moves n inner e (enum_of ms m) here there h =
     onward (is_ahead h.4) (onward (is_ahead h.5) (onward (strings_exact.moves ms h.1 h.3 (h.2, strings_are_listed ms h.1 h.2 h.6, h.7)) ((initial_string_exact (initial_member ms)).moves m h.3 there h.8)))
-type_moves n inner e (record_of fs) here there h = onward (is_ahead h.2) ((braced_fields_exact n inner e).moves (field_list fs) h.0 there (fields_are_perhaps n fs h.0 there (h.1, h.3, h.4)))
-type_moves n inner e (one_of fs) here there h = onward (is_ahead h.2) ((fields_exact n inner Greater (refl, refl) e).moves (field_list fs) h.0 there (h.1, fields_are_listed n fs h.0 h.1 h.3, h.4))
+type_moves n inner e (record_of fs) here there h = onward (is_ahead h.2) ((braced_fields_exact n inner e).moves (type_field_list fs) h.0 there (fields_are_perhaps n fs h.0 there (h.1, h.3, h.4)))
+type_moves n inner e (one_of fs) here there h = onward (is_ahead h.2) ((fields_exact n inner Greater (refl, refl) e).moves (type_field_list fs) h.0 there (h.1, fields_are_listed n fs h.0 h.1 h.3, h.4))
 type_moves n inner e (list t) here there h = onward (is_ahead h.1) (e.moves t h.0 there h.2)
 type_moves n inner e (keyed t) here there h = onward (is_ahead h.1) (e.moves t h.0 there h.2)
 type_moves n inner e (tree t) here there h = onward (is_ahead h.1) (e.moves t h.0 there h.2)
@@ -187,9 +187,9 @@ type_again n inner e (enum_of ms m) here there h behind =
     ap (type_step inner) (point_is h.4)
     ∙ rw (mark_again OpenBracket h.0 h.1 h.5, strings_exact.again ms h.1 h.3 (h.2, strings_are_listed ms h.1 h.2 h.6, h.7) tt, (initial_string_exact (initial_member ms)).again m h.3 there h.8 behind) refl
 type_again n inner e (record_of fs) here there h behind =
-    ap (type_step inner) (point_is h.2) ∙ rw ((braced_fields_exact n inner e).again (field_list fs) h.0 there (fields_are_perhaps n fs h.0 there (h.1, h.3, h.4)) tt, term_fields_of-field_list fs) refl
+    ap (type_step inner) (point_is h.2) ∙ rw ((braced_fields_exact n inner e).again (type_field_list fs) h.0 there (fields_are_perhaps n fs h.0 there (h.1, h.3, h.4)) tt, term_fields_of-field_list fs) refl
 type_again n inner e (one_of fs) here there h behind =
-    ap (type_step inner) (point_is h.2) ∙ rw ((fields_exact n inner Greater (refl, refl) e).again (field_list fs) h.0 there (h.1, fields_are_listed n fs h.0 h.1 h.3, h.4) tt, term_fields_of-field_list fs) refl
+    ap (type_step inner) (point_is h.2) ∙ rw ((fields_exact n inner Greater (refl, refl) e).again (type_field_list fs) h.0 there (h.1, fields_are_listed n fs h.0 h.1 h.3, h.4) tt, term_fields_of-field_list fs) refl
 type_again n inner e (list t) here there h behind = ap (type_step inner) (point_is h.1) ∙ rw (e.again t h.0 there h.2 behind) refl
 type_again n inner e (keyed t) here there h behind = ap (type_step inner) (point_is h.1) ∙ rw (e.again t h.0 there h.2 behind) refl
 type_again n inner e (tree t) here there h behind = ap (type_step inner) (point_is h.1) ∙ rw (e.again t h.0 there h.2 behind) refl

@@ -11,6 +11,7 @@ ghost use Rattle.command_ends.specs.declared.status.Status.{Status};
 ghost use Rattle.std.specs.Prelude.{◌≡◌, ◌⊎◌, ℕ, ◌++◌, List, Some};
 ghost use Rattle.edit_journal.specs.Pieces.{lines_of};
 ghost use Rattle.edit_journal.specs.declared.line.Line.{Line};
+ghost use Rattle.store_run.specs.Devices.{Devices};
 ghost use Rattle.store_run.specs.Stores.{Store};
 ghost use Rattle.store_laws.specs.CallsOverStores.{AppliesOver, FinishesLines, GoesOnFrom, LeavesFirstLines};
 ghost use Rattle.store_laws.specs.CallsOverStores.{StaysClosed, held_on};
@@ -42,16 +43,16 @@ pub fn two_runs_are_one_run<A: StoredSession>()
 ///   the store: such an image was possible before it.
 /// - `finishes`: the disk after a call that came to its end. The run is over all lines.
 pub fn a_call_leaves_a_run<A: StoredSession, S: Source, K: Sink, D: Disk>()
-    ensures leaves { (old new : S × K × D) (status : Status) (store : Store D.Disk A.StoredSession old.2)
+    ensures leaves { (old new : Devices S K D) (status : Status) (store : Store D.Disk A.StoredSession old.disk)
         (image : List ℕ)
-        → AppliesOver S.Source K.Sink D.Disk A.StoredSession old new status store → D.Disk.images new.2 image
+        → AppliesOver S.Source K.Sink D.Disk A.StoredSession old new status store → D.Disk.images new.disk image
         → StaysClosed S.Source K.Sink D.Disk A.StoredSession old new status image
         ⊎ LeavesFirstLines S.Source K.Sink D.Disk A.StoredSession old new
-        (held_on D.Disk A.StoredSession old.2 store) image }
-    ensures finishes { (old new : S × K × D) (status : Status) (store : Store D.Disk A.StoredSession old.2)
+        (held_on D.Disk A.StoredSession old.disk store) image }
+    ensures finishes { (old new : Devices S K D) (status : Status) (store : Store D.Disk A.StoredSession old.disk)
         → AppliesOver S.Source K.Sink D.Disk A.StoredSession old new status store → IsFinished status
         → FinishesLines S.Source K.Sink D.Disk A.StoredSession old new
-        (held_on D.Disk A.StoredSession old.2 store) }
+        (held_on D.Disk A.StoredSession old.disk store) }
 {}
 
 /// Two calls of `apply`, the second over what the first one left, are one run over the lines that they accept.
@@ -64,25 +65,26 @@ pub fn a_call_leaves_a_run<A: StoredSession, S: Source, K: Sink, D: Disk>()
 ///   call that could not open the store: then the image was possible before it.
 /// - `finished`: the first call came to its end, and they are what its disk has then.
 pub fn two_calls_are_one_run<A: StoredSession, S: Source, K: Sink, D: Disk>()
-    ensures crash { IsNumberedAlike A.StoredSession → (old1 new1 old2 new2 : S × K × D) (status1 status2 : Status)
-        (store : Store D.Disk A.StoredSession old1.2) (image : List ℕ)
-        → AppliesOver S.Source K.Sink D.Disk A.StoredSession old1 new1 status1 store → D.Disk.images new1.2 image
-        → ((other : Store D.Disk A.StoredSession old2.2)
+    ensures crash { IsNumberedAlike A.StoredSession → (old1 new1 old2 new2 : Devices S K D) (status1 status2 : Status)
+        (store : Store D.Disk A.StoredSession old1.disk) (image : List ℕ)
+        → AppliesOver S.Source K.Sink D.Disk A.StoredSession old1 new1 status1 store → D.Disk.images new1.disk image
+        → ((other : Store D.Disk A.StoredSession old2.disk)
         → AppliesOver S.Source K.Sink D.Disk A.StoredSession old2 new2 status2 other)
-        → D.Disk.content old2.2 ≡ Some image
+        → D.Disk.content old2.disk ≡ Some image
         → StaysClosed S.Source K.Sink D.Disk A.StoredSession old1 new1 status1 image
         ⊎ ((first : LeavesFirstLines S.Source K.Sink D.Disk A.StoredSession old1 new1
-        (held_on D.Disk A.StoredSession old1.2 store) image)
+        (held_on D.Disk A.StoredSession old1.disk store) image)
         × GoesOnFrom S.Source K.Sink D.Disk A.StoredSession old2 new2 status2 first.run) }
-    ensures finished { IsNumberedAlike A.StoredSession → (old1 new1 old2 new2 : S × K × D) (status1 status2 : Status)
-        (store : Store D.Disk A.StoredSession old1.2) (image : List ℕ)
+    ensures finished { IsNumberedAlike A.StoredSession
+        → (old1 new1 old2 new2 : Devices S K D) (status1 status2 : Status)
+        (store : Store D.Disk A.StoredSession old1.disk) (image : List ℕ)
         → AppliesOver S.Source K.Sink D.Disk A.StoredSession old1 new1 status1 store → IsFinished status1
-        → D.Disk.content new1.2 ≡ Some image
-        → ((other : Store D.Disk A.StoredSession old2.2)
+        → D.Disk.content new1.disk ≡ Some image
+        → ((other : Store D.Disk A.StoredSession old2.disk)
         → AppliesOver S.Source K.Sink D.Disk A.StoredSession old2 new2 status2 other)
-        → D.Disk.content old2.2 ≡ Some image
+        → D.Disk.content old2.disk ≡ Some image
         → (first : FinishesLines S.Source K.Sink D.Disk A.StoredSession old1 new1
-        (held_on D.Disk A.StoredSession old1.2 store))
+        (held_on D.Disk A.StoredSession old1.disk store))
         × GoesOnFrom S.Source K.Sink D.Disk A.StoredSession old2 new2 status2 first.run }
 {}
 
@@ -96,7 +98,7 @@ pub fn two_calls_are_one_run<A: StoredSession, S: Source, K: Sink, D: Disk>()
 /// - `crash`: the second call is over an image that a crash of the first one left, and its journal goes on behind
 ///   the lines that the image has.
 pub fn a_journal_may_be_cut<A: StoredSession, S: Source, K: Sink, D: Disk>()
-    ensures cut { IsNumberedAlike A.StoredSession → (old1 new1 old2 new2 old3 new3 : S × K × D)
+    ensures cut { IsNumberedAlike A.StoredSession → (old1 new1 old2 new2 old3 new3 : Devices S K D)
         (before : HeldStore A.StoredSession)
         (first : FinishesLines S.Source K.Sink D.Disk A.StoredSession old1 new1 before)
         (second : FinishesLines S.Source K.Sink D.Disk A.StoredSession old2 new2 first.after)
@@ -104,7 +106,7 @@ pub fn a_journal_may_be_cut<A: StoredSession, S: Source, K: Sink, D: Disk>()
         → EndsALine first.bytes → complete.bytes ≡ first.bytes ++ second.bytes
         → MeetAgain A.StoredSession before.state first.run.steps (lines_of second.bytes) second.run.steps
         second.after complete.run.steps complete.after }
-    ensures crash { IsNumberedAlike A.StoredSession → (old1 new1 old2 new2 old3 new3 : S × K × D)
+    ensures crash { IsNumberedAlike A.StoredSession → (old1 new1 old2 new2 old3 new3 : Devices S K D)
         (before : HeldStore A.StoredSession) (image : List ℕ)
         (first : LeavesFirstLines S.Source K.Sink D.Disk A.StoredSession old1 new1 before image)
         (second : FinishesLines S.Source K.Sink D.Disk A.StoredSession old2 new2 first.after)

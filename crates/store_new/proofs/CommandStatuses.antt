@@ -9,13 +9,14 @@ use Rattle.lens_io.specs.declared.source.Source as OfSource
 use Rattle.script_input.specs.declared.limits.TheConstants.{MOST_BYTES}
 use Rattle.script_input.specs.Coming.{has_separator}
 use Rattle.script_input.specs.Lines.{program_part}
+use Rattle.store_run.specs.Devices.{devices_of}
 use Rattle.store_run.specs.Refusals.{refusal_line}
 use Rattle.store_run.specs.declared.refusals.StoreRefusal.TheVariants.{LogExists}
 use Rattle.store_new.specs.Command.{PartMeaning, Command}
 use Rattle.store_new.specs.NewEnds.{GivesLine, StopsAfter, MakesStore, Ends, MayRefuse, RefusesAtOnce, IsEnd, IsComplete, Completes}
 use Rattle.store_new.specs.Scripts.{IsAcceptedPart, GoesOn, RefusesPart}
 use Rattle.store_new.specs.NewStores.{IsTooLong, EndsMaking}
-use Rattle.command_ends.specs.Statuses.{IsAmong, import_statuses, init_statuses}
+use Rattle.command_ends.specs.Statuses.{IsStatusAmong, import_statuses, init_statuses}
 use Rattle.command_ends.specs.declared.status.Status.{Status}
 use Rattle.command_ends.specs.declared.status.Status.TheVariants.{Done, SomeRefused, Usage, ProgramRefused, StoreRefused, SourceFault, SinkFault, DiskFault, InputTooLong, NoMemory}
 use Rattle.script_input.proofs.TakenParts.{IsFixed, few_taken, fixed_or_read, part_of_all, all_taken}
@@ -32,7 +33,7 @@ given_with sink k k' line ending status (inr (is, given)) = inr is
 
 module _ {S K D : Type 0} (source : OfSource.Ghosts S) (sink : OfSink.Ghosts K) (disk : OfDisk.Ghosts D) (command : Command) (s s' : S) (k k' : K) (d d' : D) (status : Status) where
   -- the store was made
-  pub done : Ends source sink disk command (s, k, d) (s', k', d') status → status ≡ Done → MakesStore source sink disk command (s, k, d) (s', k', d') Done
+  pub done : Ends source sink disk command (devices_of s k d) (devices_of s' k' d') status → status ≡ Done → MakesStore source sink disk command (devices_of s k d) (devices_of s' k' d') Done
   done (inl e) is = absurd (by_line (given_with sink k k' (refusal_line LogExists) StoreRefused status e.given)) where
     by_line : (status ≡ StoreRefused) ⊎ (status ≡ SinkFault) → ⊥
     by_line (inl x) = cc
@@ -46,11 +47,11 @@ module _ {S K D : Type 0} (source : OfSource.Ghosts S) (sink : OfSink.Ghosts K) 
     by_line : (status ≡ SomeRefused) ⊎ (status ≡ SinkFault) → ⊥
     by_line (inl x) = cc
     by_line (inr x) = cc
-  done (inr (inr (inr (inr e)))) is = subst (MakesStore source sink disk command (s, k, d) (s', k', d')) is e
+  done (inr (inr (inr (inr e)))) is = subst (MakesStore source sink disk command (devices_of s k d) (devices_of s' k' d')) is e
 
 -- ---- how such a command may end
 
-stops_among : (part : PartMeaning) (bytes : List ℕ) (status : Status) → StopsAfter part bytes status → IsAmong init_statuses status
+stops_among : (part : PartMeaning) (bytes : List ℕ) (status : Status) → StopsAfter part bytes status → IsStatusAmong init_statuses status
 stops_among part bytes Done h = absurd h
 stops_among part bytes SomeRefused h = absurd h
 stops_among part bytes Usage h = absurd h
@@ -62,12 +63,12 @@ stops_among part bytes DiskFault h = inr (inr (inr (inr (inr (inl refl)))))
 stops_among part bytes InputTooLong h = inr (inr (inr (inr (inr (inr (inl refl))))))
 stops_among part bytes NoMemory h = inr (inr (inr (inr (inr (inr (inr (inl refl)))))))
 
-by_line_among : (status ending : Status) → IsAmong init_statuses ending → (status ≡ ending) ⊎ (status ≡ SinkFault) → IsAmong init_statuses status
-by_line_among status ending among (inl x) = subst (IsAmong init_statuses) (sym x) among
+by_line_among : (status ending : Status) → IsStatusAmong init_statuses ending → (status ≡ ending) ⊎ (status ≡ SinkFault) → IsStatusAmong init_statuses status
+by_line_among status ending among (inl x) = subst (IsStatusAmong init_statuses) (sym x) among
 by_line_among status ending among (inr x) = inr (inr (inr (inr (inl x))))
 
 module _ {S K D : Type 0} (source : OfSource.Ghosts S) (sink : OfSink.Ghosts K) (disk : OfDisk.Ghosts D) (command : Command) (s s' : S) (k k' : K) (d d' : D) where
-  makes_among : (payloads : List (List ℕ)) (lines : List ℕ) (status : Status) → EndsMaking sink disk (k, d) (k', d') payloads lines status → IsAmong init_statuses status
+  makes_among : (payloads : List (List ℕ)) (lines : List ℕ) (status : Status) → EndsMaking sink disk (k, d) (k', d') payloads lines status → IsStatusAmong init_statuses status
   makes_among payloads lines Done h = inl refl
   makes_among payloads lines SomeRefused h = absurd h
   makes_among payloads lines Usage h = absurd h
@@ -80,8 +81,8 @@ module _ {S K D : Type 0} (source : OfSource.Ghosts S) (sink : OfSink.Ghosts K) 
   makes_among payloads lines NoMemory h = inr (inr (inr (inr (inr (inr (inr (inl refl)))))))
 
   -- it ends with SomeRefused only if it refuses scripts by its own rules, and never with Usage
-  pub ends_among : (status : Status) → Ends source sink disk command (s, k, d) (s', k', d') status
-      → ((bytes : List ℕ) × ((line : List ℕ) × command.refuses bytes line)) × ((status ≡ SomeRefused) ⊎ (status ≡ SinkFault)) ⊎ IsAmong init_statuses status
+  pub ends_among : (status : Status) → Ends source sink disk command (devices_of s k d) (devices_of s' k' d') status
+      → ((bytes : List ℕ) × ((line : List ℕ) × command.refuses bytes line)) × ((status ≡ SomeRefused) ⊎ (status ≡ SinkFault)) ⊎ IsStatusAmong init_statuses status
   ends_among status (inl e) = inr (by_line_among status StoreRefused (inr (inr (inl refl))) (given_with sink k k' (refusal_line LogExists) StoreRefused status e.given))
   ends_among status (inr (inl e)) = inr (stops_among command.part e.bytes status e.stops)
   ends_among status (inr (inr (inl e))) = inr (by_line_among status ProgramRefused (inr (inl refl)) (given_with sink k k' e.line ProgramRefused status e.given))
@@ -89,15 +90,15 @@ module _ {S K D : Type 0} (source : OfSource.Ghosts S) (sink : OfSink.Ghosts K) 
   ends_among status (inr (inr (inr (inr e)))) = inr (makes_among e.payloads e.lines status e.ends)
 
   -- a command with no rules of its own
-  pub init_among : ((bytes line : List ℕ) → command.refuses bytes line → ⊥) → (status : Status) → Ends source sink disk command (s, k, d) (s', k', d') status → IsAmong init_statuses status
+  pub init_among : ((bytes line : List ℕ) → command.refuses bytes line → ⊥) → (status : Status) → Ends source sink disk command (devices_of s k d) (devices_of s' k' d') status → IsStatusAmong init_statuses status
   init_among never status e = by_end (ends_among status e) where
-    by_end : ((bytes : List ℕ) × ((line : List ℕ) × command.refuses bytes line)) × ((status ≡ SomeRefused) ⊎ (status ≡ SinkFault)) ⊎ IsAmong init_statuses status → IsAmong init_statuses status
+    by_end : ((bytes : List ℕ) × ((line : List ℕ) × command.refuses bytes line)) × ((status ≡ SomeRefused) ⊎ (status ≡ SinkFault)) ⊎ IsStatusAmong init_statuses status → IsStatusAmong init_statuses status
     by_end (inl own) = absurd (never own.0.0 own.0.1.0 own.0.1.1)
     by_end (inr among) = among
 
-  pub import_among : (status : Status) → Ends source sink disk command (s, k, d) (s', k', d') status → IsAmong import_statuses status
+  pub import_among : (status : Status) → Ends source sink disk command (devices_of s k d) (devices_of s' k' d') status → IsStatusAmong import_statuses status
   import_among status e = by_end (ends_among status e) where
-    by_end : ((bytes : List ℕ) × ((line : List ℕ) × command.refuses bytes line)) × ((status ≡ SomeRefused) ⊎ (status ≡ SinkFault)) ⊎ IsAmong init_statuses status → IsAmong import_statuses status
+    by_end : ((bytes : List ℕ) × ((line : List ℕ) × command.refuses bytes line)) × ((status ≡ SomeRefused) ⊎ (status ≡ SinkFault)) ⊎ IsStatusAmong init_statuses status → IsStatusAmong import_statuses status
     by_end (inl (own, inl x)) = inl x
     by_end (inl (own, inr x)) = inr (inr (inr (inr (inr (inl x)))))
     by_end (inr among) = inr among
@@ -160,7 +161,7 @@ module _ {S K D : Type 0} (source : OfSource.Ghosts S) (sink : OfSink.Ghosts K) 
     (refuses : (bytes line : List ℕ) → command.refuses bytes line → IsAcceptedPart command.part bytes) where
   module _ (s s' : S) (k k' : K) (d d' : D) (status : Status) where
     -- a refusal of the program part is exact, and comes at once
-    pub refuses_at_once : Ends source sink disk command (s, k, d) (s', k', d') status → RefusesAtOnce command.part source s s' status
+    pub refuses_at_once : Ends source sink disk command (devices_of s k d) (devices_of s' k' d') status → RefusesAtOnce command.part source s s' status
     refuses_at_once (inl e) = accepts_at_once command.part source s s' e.bytes e.took status e.goes_on (other_line sink k k' status e.given)
     refuses_at_once (inr (inl e)) = stops_at_once command.part source s s' e.bytes e.took status e.stops
     refuses_at_once (inr (inr (inl e))) = refuses_with command.part source s s' e.bytes e.took status sink k k' e.line e.refused e.given
@@ -217,7 +218,7 @@ module _ {S K D : Type 0} (source : OfSource.Ghosts S) (sink : OfSink.Ghosts K) 
     made_ends k k' d d' payloads lines Usage h f g no_sink no_disk room = absurd h
 
     -- a command that met no fault, over a source that had these bytes and has `left'`
-    pub by_end : (s s' : S) (k k' : K) (d d' : D) (status : Status) (bytes : List ℕ) (left' : Option (List ℕ)) → Ends source sink disk command (s, k, d) (s', k', d') status
+    pub by_end : (s s' : S) (k k' : K) (d d' : D) (status : Status) (bytes : List ℕ) (left' : Option (List ℕ)) → Ends source sink disk command (devices_of s k d) (devices_of s' k' d') status
         → source.left s ≡ Some bytes → source.left s' ≡ left'
         → (status ≡ SourceFault → R) → (status ≡ SinkFault → F) → (status ≡ DiskFault → G) → disk.content d ≡ Some []
         → length bytes ≤ MOST_BYTES → (R → ⊥) → (F → ⊥) → (G → ⊥) → IsComplete command bytes status
@@ -255,9 +256,9 @@ module _ {S K D : Type 0} (source : OfSource.Ghosts S) (sink : OfSink.Ghosts K) 
   if_known (Some bytes) P f = f bytes refl
 
   -- A command that met no fault is complete.
-  pub complete : (s s' : S) (k k' : K) (d d' : D) (status : Status) → Ends source sink disk command (s, k, d) (s', k', d') status
+  pub complete : (s s' : S) (k k' : K) (d d' : D) (status : Status) → Ends source sink disk command (devices_of s k d) (devices_of s' k' d') status
       → (status ≡ SourceFault → SourceFailed source s s') → (status ≡ SinkFault → SinkFailed sink k k') → (status ≡ DiskFault → DiskFailed disk d d')
-      → Completes source sink disk command (s, k, d) (s', k', d') status
+      → Completes source sink disk command (devices_of s k d) (devices_of s' k' d') status
   complete s s' k k' d d' status ends r f g empty =
       if_known (source.left s) (λ bytes. length bytes ≤ MOST_BYTES → (SourceFailed source s s' → ⊥) → (SinkFailed sink k k' → ⊥) → (DiskFailed disk d d' → ⊥) → IsComplete command bytes status)
       (λ bytes is few no_source no_sink no_disk.

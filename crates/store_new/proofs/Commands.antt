@@ -11,6 +11,7 @@ use Rattle.script_input.specs.declared.limits.TheConstants.{MOST_BYTES}
 use Rattle.script_input.specs.Coming.{IsWhole}
 use Rattle.script_input.specs.Lines.{program_part}
 use Rattle.store_run.proofs.Openings.{unwritten_none, unwritten_then}
+use Rattle.store_run.specs.Devices.{devices_of}
 use Rattle.store_run.specs.Refusals.{IsUnwritten, refusal_line}
 use Rattle.store_run.specs.declared.refusals.StoreRefusal.TheVariants.{LogExists}
 use Rattle.store_new.specs.Command.{PartMeaning, Command}
@@ -50,7 +51,7 @@ module _ {D : Type 0} (disk : OfDisk.Ghosts D) where
 module _ {S K D : Type 0} (source : OfSource.Ghosts S) (sink : OfSink.Ghosts K) (disk : OfDisk.Ghosts D) (command : Command) where
   -- the disk is not empty
   pub finds_store : (s : S) (k k' : K) (d d' : D) (count : ℕ) (status : Status) → IfSome (disk.content d) (λ bytes. count ≡ length bytes) → (count ≡ 0 → ⊥)
-      → IsUnwritten disk d d' → GivesLine sink k k' (refusal_line LogExists) StoreRefused status → Ends source sink disk command (s, k, d) (s, k', d') status
+      → IsUnwritten disk d d' → GivesLine sink k k' (refusal_line LogExists) StoreRefused status → Ends source sink disk command (devices_of s k d) (devices_of s k' d') status
   finds_store s k k' d d' count status is some unwritten given = inl (record {
     bytes = [];
     took = Consumes-nil (source.left s);
@@ -62,13 +63,13 @@ module _ {S K D : Type 0} (source : OfSource.Ghosts S) (sink : OfSink.Ghosts K) 
   })
 
   -- the disk failed at once
-  pub fails_first : (s : S) (k : K) (d d' : D) → IsUnwritten disk d d' → Ends source sink disk command (s, k, d) (s, k, d') DiskFault
+  pub fails_first : (s : S) (k : K) (d d' : D) → IsUnwritten disk d d' → Ends source sink disk command (devices_of s k d) (devices_of s k d') DiskFault
   fails_first s k d d' unwritten =
       inr (inl (record { bytes = []; took = Consumes-nil (source.left s); at_most = omega arith; stops = refl; unwritten = unwritten; given = Appends-nil (sink.held k) }))
 
   -- what was done behind the test of the disk
-  pub ends_behind : (s s' : S) (k k' : K) (d d1 d' : D) (status : Status) → IsUnwritten disk d d1 → Ends source sink disk command (s, k, d1) (s', k', d') status
-      → Ends source sink disk command (s, k, d) (s', k', d') status
+  pub ends_behind : (s s' : S) (k k' : K) (d d1 d' : D) (status : Status) → IsUnwritten disk d d1 → Ends source sink disk command (devices_of s k d1) (devices_of s' k' d') status
+      → Ends source sink disk command (devices_of s k d) (devices_of s' k' d') status
   ends_behind s s' k k' d d1 d' status u (inl e) = inl (record {
     bytes = e.bytes;
     took = e.took;
@@ -121,19 +122,19 @@ module _ {S K D : Type 0} (source : OfSource.Ghosts S) (sink : OfSink.Ghosts K) 
 
   module _ (s s' : S) (k : K) (d : D) where
     -- the reading stopped
-    pub ends_front : (fault : TakeFault) → ReadsFront command.part source s s' fault → Ends source sink disk command (s, k, d) (s', k, d) (status_at fault)
+    pub ends_front : (fault : TakeFault) → ReadsFront command.part source s s' fault → Ends source sink disk command (devices_of s k d) (devices_of s' k d) (status_at fault)
     ends_front fault r =
         inr (inl (record { bytes = r.bytes; took = r.took; at_most = r.at_most; stops = r.stops; unwritten = unwritten_none disk d; given = Appends-nil (sink.held k) }))
 
   module _ (s s' : S) (k k' : K) (d : D) (bytes : List ℕ) (status : Status) (took : Took source s s' bytes) where
     -- memory ran out behind these bytes
-    pub runs_out : length bytes ≤ MOST_BYTES + 1 → status ≡ NoMemory → Gave sink k k' [] → Ends source sink disk command (s, k, d) (s', k', d) status
+    pub runs_out : length bytes ≤ MOST_BYTES + 1 → status ≡ NoMemory → Gave sink k k' [] → Ends source sink disk command (devices_of s k d) (devices_of s' k' d) status
     runs_out few is given =
         inr (inl (record { bytes = bytes; took = took; at_most = few; stops = subst (StopsAfter command.part bytes) (sym is) tt; unwritten = unwritten_none disk d; given = given }))
 
     -- the command refuses the script
     pub refused_with : (line : List ℕ) → IsRead source s s' → length bytes ≤ MOST_BYTES → command.refuses bytes line
-        → IfSome (disk.content d) (λ before. length before ≡ 0) → GivesLine sink k k' line SomeRefused status → Ends source sink disk command (s, k, d) (s', k', d) status
+        → IfSome (disk.content d) (λ before. length before ≡ 0) → GivesLine sink k k' line SomeRefused status → Ends source sink disk command (devices_of s k d) (devices_of s' k' d) status
     refused_with line read within refused empty given = inr (inr (inr (inl (record {
       bytes = bytes;
       took = took;
@@ -148,7 +149,7 @@ module _ {S K D : Type 0} (source : OfSource.Ghosts S) (sink : OfSink.Ghosts K) 
 
     -- the program part is refused
     pub ends_refused : length bytes ≤ MOST_BYTES + 1 → IsWhole source s s' bytes → IfSome (disk.content d) (λ before. length before ≡ 0)
-        → RefusesWith command.part sink k k' (command.part.accepted (program_part bytes)) status → Ends source sink disk command (s, k, d) (s', k', d) status
+        → RefusesWith command.part sink k k' (command.part.accepted (program_part bytes)) status → Ends source sink disk command (devices_of s k d) (devices_of s' k' d) status
     ends_refused few whole empty (inl (line, is, given)) = inr (inr (inl (record {
       bytes = bytes;
       took = took;
@@ -165,11 +166,11 @@ module _ {S K D : Type 0} (source : OfSource.Ghosts S) (sink : OfSink.Ghosts K) 
     -- the script was read to its end and is accepted, and its store was made or its making stopped
     pub ends_plan : Took source s s' bytes → IsRead source s s' → length bytes ≤ MOST_BYTES → IsAcceptedPart command.part bytes → IfSome (disk.content d) (λ before. length before ≡ 0)
         → ((payloads : List (List ℕ)) (lines : List ℕ) → P payloads lines → command.makes bytes payloads lines)
-        → EndsPlan sink disk (k, d) (k', d') P status → Ends source sink disk command (s, k, d) (s', k', d') status
+        → EndsPlan sink disk (k, d) (k', d') P status → Ends source sink disk command (devices_of s k d) (devices_of s' k' d') status
     ends_plan took read few accepted empty planned (inr (is, same, given)) =
-        subst (λ x. Ends source sink disk command (s, k, d) (s', k', x) status) (sym same) (runs_out s s' k k' d bytes status took (omega (arith, few)) is given)
+        subst (λ x. Ends source sink disk command (devices_of s k d) (devices_of s' k' x) status) (sym same) (runs_out s s' k k' d bytes status took (omega (arith, few)) is given)
     ends_plan took read few accepted empty planned (inl w) = by_making w.ends where
-      by_making : EndsStore sink disk (k, d) (k', d') w.payloads w.lines status → Ends source sink disk command (s, k, d) (s', k', d') status
+      by_making : EndsStore sink disk (k, d) (k', d') w.payloads w.lines status → Ends source sink disk command (devices_of s k d) (devices_of s' k' d') status
       by_making (inl t) = inl (record {
         bytes = bytes;
         took = took;

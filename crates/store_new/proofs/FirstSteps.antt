@@ -24,7 +24,7 @@ use Rattle.lens_core.specs.Translation.{Translated, translate}
 use Rattle.lens_forms.specs.Forms.{FormTree, left_type, right_type}
 use Rattle.lens_forms.specs.declared.limits.TheConstants.{GREATEST_HEIGHT}
 use Rattle.pair_answers.specs.Answers.{state_lines}
-use Rattle.pair_answers.specs.ItemRuns.{IsInStepFor, first_of}
+use Rattle.pair_answers.specs.ItemRuns.{IsInStepFor, triple_at_first}
 use Rattle.pair_answers.proofs.InStep.{of_form}
 use Rattle.store_records.specs.RecordJson.{tree_of_change_record}
 use Rattle.store_session.proofs.AcceptedDepths.{accepted_low}
@@ -44,13 +44,13 @@ document_made form doc ty w same is acts counts =
     }
 
 -- it applies to the first triple
-pub entry_applies : (left right : TyTree) (form : FormTree) (t : TripleTree) (doc : DocTree) (e : Side × WordTree) → left ≡ left_type form → t ≡ first_of form → MakesDocument form doc e
+pub entry_applies : (left right : TyTree) (form : FormTree) (t : TripleTree) (doc : DocTree) (e : Side × WordTree) → left ≡ left_type form → t ≡ triple_at_first form → MakesDocument form doc e
     → (x : DocTree) × (act (near e.0 left right) e.1 (document_on e.0 t) ≡ Ok x)
 entry_applies left right form t doc e same first m = (
   doc,
   subst (λ l. act (near e.0 l right) e.1 (document_on e.0 t) ≡ Ok doc) (sym same)
       (subst (λ u. act (near e.0 (left_type form) right) e.1 (document_on e.0 u) ≡ Ok doc) (sym first)
-      (subst (λ (k : Side × WordTree). act (near k.0 (left_type form) right) k.1 (document_on k.0 (first_of form)) ≡ Ok doc) (sym m.is) m.acts)),
+      (subst (λ (k : Side × WordTree). act (near k.0 (left_type form) right) k.1 (document_on k.0 (triple_at_first form)) ≡ Ok doc) (sym m.is) m.acts)),
 )
 
 pub entry_counts : (form : FormTree) (doc : DocTree) (e : Side × WordTree) → MakesDocument form doc e → change_counts_fit (one e) ≡ true
@@ -79,7 +79,7 @@ first_made : (form : FormTree) (doc : DocTree) (after : TripleTree) (word : Word
     → height (left_type form) ≤ GREATEST_HEIGHT → height (right_type form) ≤ GREATEST_HEIGHT
     → act (left_type form) (construct (left_type form) doc) (initial (left_type form)) ≡ Ok doc
     → counts_fit (construct (left_type form) doc) ≡ true → change_numbers_fit (one (Left, construct (left_type form) doc)) ≡ true
-    → step (left_type form) (right_type form) (translate form) (first_of form) (Left, construct (left_type form) doc) ≡ Some (Ok (after, word))
+    → step (left_type form) (right_type form) (translate form) (triple_at_first form) (Left, construct (left_type form) doc) ≡ Some (Ok (after, word))
     → IsInStepFor form after
     → payload ≡ compact_text (tree_of_change_record (one (Left, construct (left_type form) doc)))
     → (depth (tree_of_change_record (one (Left, construct (left_type form) doc))) ≤ max_depth → tree_of_text payload ≡ Some (tree_of_change_record (one (Left, construct (left_type form) doc))))
@@ -92,10 +92,10 @@ first_made form doc after word payload lines low_left low_right acts counts numb
       after = after;
       word = word;
       is_payload = is;
-      reads = reads (accepted_low form (first_of form) after (one (Left, w)) (word ∷ []) low_left low_right all);
+      reads = reads (accepted_low form (triple_at_first form) after (one (Left, w)) (word ∷ []) low_left low_right all);
       counts = (both (counts_fit w) true counts refl, numbers);
       steps = all;
-      left_is = step_left (left_type form) (right_type form) (translate form) (first_of form) w doc (after, word) steps acts;
+      left_is = step_left (left_type form) (right_type form) (translate form) (triple_at_first form) w doc (after, word) steps acts;
       in_step = in_step;
       written = written;
     }
@@ -109,7 +109,7 @@ record HasText (e : Side × WordTree) (payload : List ℕ) : Type 0 where
 -- The same for the step of a lens of the form.
 pub entry_made : (left right : TyTree) (start : CompTree) (holds : DocTree → CompTree → DocTree → Type 0) (carried : Side → CompTree → WordTree → Option Translated) (form : FormTree)
     (doc : DocTree) (e : Side × WordTree) (t after : TripleTree) (word : WordTree) (payload lines : List ℕ) → IsLensOf left right start holds carried form
-    → height (left_type form) ≤ GREATEST_HEIGHT → height (right_type form) ≤ GREATEST_HEIGHT → MakesDocument form doc e → t ≡ first_of form
+    → height (left_type form) ≤ GREATEST_HEIGHT → height (right_type form) ≤ GREATEST_HEIGHT → MakesDocument form doc e → t ≡ triple_at_first form
     → step left right carried t e ≡ Some (Ok (after, word)) → IsInStep holds after
     → payload ≡ compact_text (tree_of_change_record (one e))
     → (depth (tree_of_change_record (one e)) ≤ max_depth → tree_of_text payload ≡ Some (tree_of_change_record (one e)))
@@ -120,7 +120,7 @@ entry_made left right start holds carried form doc e t after word payload lines 
     let w = construct (left_type form) doc in
     let of_the_form = of_form left right start holds carried form l (λ a b k. step a b k t e ≡ Some (Ok (after, word))) steps in
     let from_first = subst (λ u. step (left_type form) (right_type form) (translate form) u e ≡ Some (Ok (after, word))) first of_the_form in
-    let by_entry = subst (λ (k : Side × WordTree). step (left_type form) (right_type form) (translate form) (first_of form) k ≡ Some (Ok (after, word))) m.is from_first in
+    let by_entry = subst (λ (k : Side × WordTree). step (left_type form) (right_type form) (translate form) (triple_at_first form) k ≡ Some (Ok (after, word))) m.is from_first in
     let text = subst (λ (k : Side × WordTree). HasText k payload) m.is (record { is = is; reads = reads; numbers = numbers }) in
     first_made form doc after word payload lines low_left low_right m.acts m.counts text.numbers by_entry
     ((l.relates after.left after.comp after.right).0 in_step) text.is text.reads written

@@ -15,6 +15,7 @@ use Rattle.program_terms.specs.Terms.{ProgramTree}
 use Rattle.program_writing.specs.Canonical.{canonical}
 use Rattle.script_input.specs.Lines.{program_part, journal}
 use Rattle.store_records.specs.RecordJson.{tree_of_program}
+use Rattle.store_run.specs.Devices.{devices_of}
 use Rattle.store_run.specs.Refusals.{refusal_line}
 use Rattle.store_run.specs.declared.refusals.StoreRefusal.TheVariants.{LogExists}
 use Rattle.store_session.specs.Stands.{at_start, stands}
@@ -95,22 +96,22 @@ module _ {S K D : Type 0} (source : OfSource.Ghosts S) (sink : OfSink.Ghosts K) 
   -- the script was read, and its document was refused, or its store was made, or its making stopped
   pub brought : (program : ProgramTree) (form : FormTree) (found : Found) → ReadsImport source s s' program form found
       → IfSome (disk.content d) (λ before. length before ≡ 0) → EndsImport sink disk (k, d) (k', d') program form (document_of_found (left_type form) found) status
-      → Ends source sink disk import_command (s, k, d) (s', k', d') status
+      → Ends source sink disk import_command (devices_of s k d) (devices_of s' k' d') status
   brought program form found r empty ends = by_end ends where
     same : document_of_found (left_type form) found ≡ document_of_script (left_type form) r.bytes
     same = ap (document_of_found (left_type form)) r.is ∙ document_found (left_type form) (journal r.bytes)
 
-    by_end : EndsImport sink disk (k, d) (k', d') program form (document_of_found (left_type form) found) status → Ends source sink disk import_command (s, k, d) (s', k', d') status
-    by_end (inl (x, still)) = subst (λ y. Ends source sink disk import_command (s, k, d) (s', k', y) status) (sym still)
+    by_end : EndsImport sink disk (k, d) (k', d') program form (document_of_found (left_type form) found) status → Ends source sink disk import_command (devices_of s k d) (devices_of s' k' d') status
+    by_end (inl (x, still)) = subst (λ y. Ends source sink disk import_command (devices_of s k d) (devices_of s' k' y) status) (sym still)
         (refused_with source sink disk import_command s s' k k' d r.bytes status r.took (import_line x.refusal) r.read r.within
         (record { program = program; form = form; accepted = r.accepted; refusal = x.refusal; refused = sym same ∙ x.is; is_line = refl }) empty x.given)
     by_end (inr (inl (doc, is, plan))) =
         ends_plan source sink disk import_command s s' k k' d d' r.bytes (IsImportStore program form doc) status r.took r.read r.within (form, r.accepted.has_lens) empty
         (λ payloads lines f. brings r.bytes program form doc payloads lines r.accepted (sym same ∙ is) f) plan
-    by_end (inr (inr (is, still, given))) = subst (λ y. Ends source sink disk import_command (s, k, d) (s', k', y) status) (sym still)
+    by_end (inr (inr (is, still, given))) = subst (λ y. Ends source sink disk import_command (devices_of s k d) (devices_of s' k' y) status) (sym still)
         (runs_out source sink disk import_command s s' k k' d r.bytes status r.took (omega (arith, r.within)) is given)
 
-  pub imports : Ends source sink disk import_command (s, k, d) (s', k', d') status → status ≡ Done → Imports source sink disk (s, k, d) (s', k', d')
+  pub imports : Ends source sink disk import_command (devices_of s k d) (devices_of s' k' d') status → status ≡ Done → Imports source sink disk (devices_of s k d) (devices_of s' k' d')
   imports e is =
       let m = done source sink disk import_command s s' k k' d d' status e is in
       let b = m.made in
@@ -130,7 +131,7 @@ module _ {S K D : Type 0} (source : OfSource.Ghosts S) (sink : OfSink.Ghosts K) 
         given = subst (Gave sink k k') b.written m.ends.1;
       }
 
-  pub refuses_import : Ends source sink disk import_command (s, k, d) (s', k', d') status → status ≡ SomeRefused → RefusesImport source sink disk (s, k, d) (s', k', d')
+  pub refuses_import : Ends source sink disk import_command (devices_of s k d) (devices_of s' k' d') status → status ≡ SomeRefused → RefusesImport source sink disk (devices_of s k d) (devices_of s' k' d')
   refuses_import (inl e) is = absurd (by_line (given_with sink k k' (refusal_line LogExists) StoreRefused status e.given)) where
     by_line : (status ≡ StoreRefused) ⊎ (status ≡ SinkFault) → ⊥
     by_line (inl x) = cc
@@ -141,7 +142,7 @@ module _ {S K D : Type 0} (source : OfSource.Ghosts S) (sink : OfSink.Ghosts K) 
     by_line (inl x) = cc
     by_line (inr x) = cc
   refuses_import (inr (inr (inr (inl e)))) is = by_given e.given where
-    by_given : GivesLine sink k k' e.line SomeRefused status → RefusesImport source sink disk (s, k, d) (s', k', d')
+    by_given : GivesLine sink k k' e.line SomeRefused status → RefusesImport source sink disk (devices_of s k d) (devices_of s' k' d')
     by_given (inl (same, given)) = record {
       bytes = e.bytes;
       took = e.took;

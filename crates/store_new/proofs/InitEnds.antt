@@ -13,6 +13,7 @@ use Rattle.lens_syntax.specs.declared.reading.TheConstants.{MOST_PROGRAM_BYTES}
 use Rattle.program_terms.specs.Terms.{ProgramTree}
 use Rattle.program_writing.specs.Canonical.{canonical}
 use Rattle.script_input.specs.Lines.{program_part}
+use Rattle.store_run.specs.Devices.{devices_of}
 use Rattle.store_run.specs.Refusals.{refusal_line}
 use Rattle.store_run.specs.declared.refusals.StoreRefusal.TheVariants.{LogExists}
 use Rattle.store_records.specs.RecordJson.{tree_of_program}
@@ -83,12 +84,12 @@ module _ {S K D : Type 0} (source : OfSource.Ghosts S) (sink : OfSink.Ghosts K) 
   -- the script was read, and its store was made or its making stopped
   pub begun : (program : ProgramTree) (form : FormTree) → ReadsScript source s s' program form
       → IfSome (disk.content d) (λ before. length before ≡ 0) → EndsPlan sink disk (k, d) (k', d') (IsFirstStore program form) status
-      → Ends source sink disk init_command (s, k, d) (s', k', d') status
+      → Ends source sink disk init_command (devices_of s k d) (devices_of s' k' d') status
   begun program form r empty plan =
       ends_plan source sink disk init_command s s' k k' d d' r.bytes (IsFirstStore program form) status r.took r.read r.within (form, r.accepted.has_lens) empty
       (λ payloads lines f. begins r.bytes program form payloads lines r.accepted f) plan
 
-  pub starts : Ends source sink disk init_command (s, k, d) (s', k', d') status → status ≡ Done → Starts source sink disk (s, k, d) (s', k', d')
+  pub starts : Ends source sink disk init_command (devices_of s k d) (devices_of s' k' d') status → status ≡ Done → Starts source sink disk (devices_of s k d) (devices_of s' k' d')
   starts e is =
       let m = done source sink disk init_command s s' k k' d d' status e is in
       let b = m.made in
@@ -107,7 +108,7 @@ module _ {S K D : Type 0} (source : OfSource.Ghosts S) (sink : OfSink.Ghosts K) 
       }
 
   -- `init` refuses no document
-  pub no_document : Ends source sink disk init_command (s, k, d) (s', k', d') status → status ≡ SomeRefused → ⊥
+  pub no_document : Ends source sink disk init_command (devices_of s k d) (devices_of s' k' d') status → status ≡ SomeRefused → ⊥
   no_document (inl e) is = by_line (given_with sink k k' (refusal_line LogExists) StoreRefused status e.given) where
     by_line : (status ≡ StoreRefused) ⊎ (status ≡ SinkFault) → ⊥
     by_line (inl x) = cc

@@ -2,7 +2,7 @@
 use Rattle.std.proofs.Common.{◌≡◌, inl, inr, ℕ, ◌+◌, ◌≤◌, List, [], ◌++◌, length, true, false, Ok, Err, sym, ap, subst, ◌∙◌, append_assoc, length-append, arith}
 use Rattle.std.proofs.KnownBytes.{Consumes-trans}
 use Rattle.accepted_programs.specs.Program.{lens_of}
-use Rattle.accepted_programs.specs.Refused.{IsKnown, IsRefusal}
+use Rattle.accepted_programs.specs.Refused.{IsKnown, IsProgramRefusal}
 use Rattle.accepted_programs.specs.declared.program.Refused.{Refused}
 use Rattle.lens_forms.specs.Forms.{FormTree}
 use Rattle.lens_io.specs.Calls.{Took}
@@ -54,7 +54,7 @@ module _ {S : Type 0} (source : OfSource.Ghosts S) (s s' : S) where
     pub alone_read : (p : ProgramTree) (l : FormTree) → ((part : List ℕ) → HoldsPart program part → IsAccepted part p l) → ReadsScript source s s' p l
     alone_read p l accepted = record { bytes = r.bytes; took = r.whole.consumes; read = r.whole.at_end; within = r.whole.within; accepted = accepted (program_part r.bytes) r.holds }
 
-    pub alone_refused : (refused : Refused) → ((part : List ℕ) → HoldsPart program part → IsRefusal (lens_of part) refused) → IsKnown refused → ReadsRefused source s s' refused
+    pub alone_refused : (refused : Refused) → ((part : List ℕ) → HoldsPart program part → IsProgramRefusal (lens_of part) refused) → IsKnown refused → ReadsRefused source s s' refused
     alone_refused refused is known = record { bytes = r.bytes; took = r.whole.consumes; at_most = omega (arith, r.whole.within); whole = inr (r.whole.no_separator, r.whole.at_end); is = is (program_part r.bytes) r.holds; known = known }
 
 -- ---- a script with a separator, whose program part is kept in any value
@@ -104,13 +104,13 @@ module _ {S : Type 0} {P : Type 0} {Holds : P → List ℕ → Type 0} (source :
 -- ---- a script with a separator, whose program part is one program
 
 module _ {S : Type 0} (source : OfSource.Ghosts S) (s mid : S) (program : ProgramText) (input : TakenInput) (r : ReadsPart source s mid HoldsPart program input) where
-  pub part_refused : (refused : Refused) → ((part : List ℕ) → HoldsPart program part → IsRefusal (lens_of part) refused) → IsKnown refused → ReadsRefused source s mid refused
+  pub part_refused : (refused : Refused) → ((part : List ℕ) → HoldsPart program part → IsProgramRefusal (lens_of part) refused) → IsKnown refused → ReadsRefused source s mid refused
   part_refused refused is known = record {
     bytes = r.front ++ r.rest;
     took = r.taken.consumes;
     at_most = r.taken.few;
     whole = inl (has_part source s mid program input r);
-    is = subst (λ part. IsRefusal (lens_of part) refused) (sym (r.head.is_part r.rest)) (is r.part r.holds);
+    is = subst (λ part. IsProgramRefusal (lens_of part) refused) (sym (r.head.is_part r.rest)) (is r.part r.holds);
     known = known;
   }
 

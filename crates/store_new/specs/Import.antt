@@ -21,13 +21,14 @@ use Rattle.edit_module.specs.Words.{WordTree}
 use Rattle.edit_session.specs.Step.{TripleTree}
 use Rattle.lens_forms.specs.Forms.{FormTree, left_type}
 use Rattle.pair_answers.specs.Answers.{state_lines}
-use Rattle.pair_answers.specs.ItemRuns.{IsInStepFor, first_of}
+use Rattle.pair_answers.specs.ItemRuns.{IsInStepFor, triple_at_first}
 use Rattle.script_input.specs.declared.limits.TheConstants.{MOST_BYTES}
 use Rattle.program_terms.specs.Terms.{ProgramTree}
 use Rattle.script_input.specs.Lines.{program_part, journal}
 use Rattle.store_records.specs.RecordJson.{tree_of_change_record}
 use Rattle.store_session.specs.Stands.{stands, step_of}
 use Rattle.store_session.specs.Standings.{standing}
+use Rattle.store_run.specs.Devices.{Devices}
 use Rattle.store_run.specs.Refusals.{IsUnwritten}
 use Rattle.texts.specs.declared.side.Side.TheVariants.{Left, Right}
 use Rattle.value_json.specs.DocumentJson.{document_of}
@@ -108,7 +109,8 @@ pub record IsImported (bytes : List ℕ) (program : ProgramTree) (form : FormTre
     (word : WordTree) : Type 0 where
   pub accepted : IsAccepted (program_part bytes) program form
   pub is_document : document_of_script (left_type form) bytes ≡ Ok doc
-  pub steps : step_of form (first_of form) (one (Left, construct (left_type form) doc)) ≡ Some (Ok (after, word ∷ []))
+  pub steps : step_of form (triple_at_first form) (one (Left, construct (left_type form) doc))
+      ≡ Some (Ok (after, word ∷ []))
   pub left_is : after.left ≡ doc
   pub in_step : IsInStepFor form after
   pub stand : stands (program_payload program ∷ entry_payload (construct (left_type form) doc) ∷ [])
@@ -133,33 +135,34 @@ import_command = record { part = one_program; makes = Brings; refuses = RefusesD
 -- ---- a call
 
 module _ {S K D : Type 0} (source : OfSource.Ghosts S) (sink : OfSink.Ghosts K) (disk : OfDisk.Ghosts D)
-    (old new : S × K × D) where
+    (old new : Devices S K D) where
   -- The source was read to its end, and gave these bytes. The disk was empty, and holds the two payloads of `Brings`.
   -- The line `ok 1` and the state lines were written.
   pub record Imports : Type 0 where
     pub bytes : List ℕ
-    pub took : Took source old.0 new.0 bytes
-    pub read : IsRead source old.0 new.0
+    pub took : Took source old.source new.source bytes
+    pub read : IsRead source old.source new.source
     pub within : length bytes ≤ MOST_BYTES
-    pub was_empty : IfSome (disk.content old.2) (λ before. length before ≡ 0)
+    pub was_empty : IfSome (disk.content old.disk) (λ before. length before ≡ 0)
     pub program : ProgramTree
     pub form : FormTree
     pub doc : DocTree
     pub after : TripleTree
     pub word : WordTree
     pub imported : IsImported bytes program form doc after word
-    pub stored : HoldsStore disk new.2 (program_payload program ∷ entry_payload (construct (left_type form) doc) ∷ [])
-    pub given : Gave sink old.1 new.1 (ok_line 1 Right word ++ state_lines form after)
+    pub stored : HoldsStore disk new.disk
+        (program_payload program ∷ entry_payload (construct (left_type form) doc) ∷ [])
+    pub given : Gave sink old.sink new.sink (ok_line 1 Right word ++ state_lines form after)
 
   -- The script was read to its end, and its document is refused: the line of that refusal was written. The disk was
   -- empty, and is as before.
   pub record RefusesImport : Type 0 where
     pub bytes : List ℕ
-    pub took : Took source old.0 new.0 bytes
-    pub read : IsRead source old.0 new.0
+    pub took : Took source old.source new.source bytes
+    pub read : IsRead source old.source new.source
     pub within : length bytes ≤ MOST_BYTES
     pub line : List ℕ
     pub refused : RefusesDocument bytes line
-    pub was_empty : IfSome (disk.content old.2) (λ before. length before ≡ 0)
-    pub unwritten : IsUnwritten disk old.2 new.2
-    pub given : Gave sink old.1 new.1 line
+    pub was_empty : IfSome (disk.content old.disk) (λ before. length before ≡ 0)
+    pub unwritten : IsUnwritten disk old.disk new.disk
+    pub given : Gave sink old.sink new.sink line

@@ -14,7 +14,7 @@ use Rattle.edit_module.specs.Words.{WordTree}
 use Rattle.edit_session.specs.Step.{TripleTree}
 use Rattle.edit_journal.specs.EntryJson.{tree_of_text}
 use Rattle.pair_answers.specs.Answers.{state_lines}
-use Rattle.pair_answers.specs.ItemRuns.{IsInStepFor, first_of}
+use Rattle.pair_answers.specs.ItemRuns.{IsInStepFor, triple_at_first}
 use Rattle.lens_forms.specs.Forms.{FormTree, left_type}
 use Rattle.program_terms.specs.Terms.{ProgramTree}
 use Rattle.program_writing.specs.Canonical.{canonical}
@@ -45,7 +45,8 @@ pub record IsEntryText (form : FormTree) (doc : DocTree) (payload lines : List �
   pub is_payload : payload ≡ entry_payload (construct (left_type form) doc)
   pub reads : ReadsAs form (payload, the_change (one (Left, construct (left_type form) doc)))
   pub counts : HasRecord 2 (one (Left, construct (left_type form) doc))
-  pub steps : step_of form (first_of form) (one (Left, construct (left_type form) doc)) ≡ Some (Ok (after, word ∷ []))
+  pub steps : step_of form (triple_at_first form) (one (Left, construct (left_type form) doc))
+      ≡ Some (Ok (after, word ∷ []))
   pub left_is : after.left ≡ doc
   pub in_step : IsInStepFor form after
   pub written : lines ≡ ok_line 1 Right word ++ state_lines form after

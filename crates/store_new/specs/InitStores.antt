@@ -2,7 +2,7 @@
 use Rattle.std.specs.Prelude.{◌≡◌, ℕ, List, [], ◌∷◌, Some}
 use Rattle.edit_journal.specs.EntryJson.{tree_of_text}
 use Rattle.pair_answers.specs.Answers.{state_lines}
-use Rattle.pair_answers.specs.ItemRuns.{first_of}
+use Rattle.pair_answers.specs.ItemRuns.{triple_at_first}
 use Rattle.lens_forms.specs.Forms.{FormTree}
 use Rattle.program_terms.specs.Terms.{ProgramTree}
 use Rattle.program_writing.specs.Canonical.{canonical}
@@ -14,4 +14,4 @@ pub record IsFirstStore (program : ProgramTree) (form : FormTree) (payloads : Li
     (lines : List ℕ) : Type 0 where
   pub are : payloads ≡ program_payload program ∷ []
   pub reads : tree_of_text (program_payload program) ≡ Some (tree_of_program (canonical program))
-  pub written : lines ≡ state_lines form (first_of form)
+  pub written : lines ≡ state_lines form (triple_at_first form)

@@ -8,6 +8,7 @@ use Rattle.lens_io.specs.declared.source.Source as OfSource
 use Rattle.script_input.specs.declared.limits.TheConstants.{MOST_BYTES}
 use Rattle.script_input.specs.Coming.{has_separator}
 use Rattle.script_input.specs.Lines.{program_part}
+use Rattle.store_run.specs.Devices.{Devices}
 use Rattle.store_run.specs.Refusals.{IsUnwritten, refusal_line}
 use Rattle.store_run.specs.declared.refusals.StoreRefusal.TheVariants.{LogExists}
 use Rattle.store_new.specs.Command.{PartMeaning, Command}
@@ -37,63 +38,63 @@ StopsAfter part bytes status = ⊥
 
 -- A command before a call (old) and after it (new): what its source, its sink and its disk tell.
 module _ {S K D : Type 0} (source : OfSource.Ghosts S) (sink : OfSink.Ghosts K) (disk : OfDisk.Ghosts D)
-    (command : Command) (old new : S × K × D) (status : Status) where
+    (command : Command) (old new : Devices S K D) (status : Status) where
   -- The disk is not empty, and `store refused: log-exists` was written in place of all else. If the content of the disk
   -- is known, nothing was taken from the source.
   pub record FindsStore : Type 0 where
     pub bytes : List ℕ
-    pub took : Took source old.0 new.0 bytes
+    pub took : Took source old.source new.source bytes
     pub within : length bytes ≤ MOST_BYTES
     pub goes_on : GoesOn command.part bytes
-    pub some : IfSome (disk.content old.2) (λ before. (0 < length before) × (bytes ≡ []))
-    pub unwritten : IsUnwritten disk old.2 new.2
-    pub given : GivesLine sink old.1 new.1 (refusal_line LogExists) StoreRefused status
+    pub some : IfSome (disk.content old.disk) (λ before. (0 < length before) × (bytes ≡ []))
+    pub unwritten : IsUnwritten disk old.disk new.disk
+    pub given : GivesLine sink old.sink new.sink (refusal_line LogExists) StoreRefused status
 
   -- The command stopped before its script was known. It wrote nothing.
   pub record StopsEarly : Type 0 where
     pub bytes : List ℕ
-    pub took : Took source old.0 new.0 bytes
+    pub took : Took source old.source new.source bytes
     pub at_most : length bytes ≤ MOST_BYTES + 1
     pub stops : StopsAfter command.part bytes status
-    pub unwritten : IsUnwritten disk old.2 new.2
-    pub given : Gave sink old.1 new.1 []
+    pub unwritten : IsUnwritten disk old.disk new.disk
+    pub given : Gave sink old.sink new.sink []
 
   -- The program part is whole and refused. The line of that refusal was written, and nothing to the disk, which was
   -- empty.
   pub record RefusesProgram : Type 0 where
     pub bytes : List ℕ
-    pub took : Took source old.0 new.0 bytes
+    pub took : Took source old.source new.source bytes
     pub at_most : length bytes ≤ MOST_BYTES + 1
     pub line : List ℕ
-    pub refused : RefusesPart command.part source old.0 new.0 bytes line
-    pub was_empty : IfSome (disk.content old.2) (λ before. length before ≡ 0)
-    pub unwritten : IsUnwritten disk old.2 new.2
-    pub given : GivesLine sink old.1 new.1 line ProgramRefused status
+    pub refused : RefusesPart command.part source old.source new.source bytes line
+    pub was_empty : IfSome (disk.content old.disk) (λ before. length before ≡ 0)
+    pub unwritten : IsUnwritten disk old.disk new.disk
+    pub given : GivesLine sink old.sink new.sink line ProgramRefused status
 
   -- The script was read to its end, and the command refuses it. Its line was written, and nothing to the disk, which
   -- was empty.
   pub record RefusesScript : Type 0 where
     pub bytes : List ℕ
-    pub took : Took source old.0 new.0 bytes
-    pub read : IsRead source old.0 new.0
+    pub took : Took source old.source new.source bytes
+    pub read : IsRead source old.source new.source
     pub within : length bytes ≤ MOST_BYTES
     pub line : List ℕ
     pub refused : command.refuses bytes line
-    pub was_empty : IfSome (disk.content old.2) (λ before. length before ≡ 0)
-    pub unwritten : IsUnwritten disk old.2 new.2
-    pub given : GivesLine sink old.1 new.1 line SomeRefused status
+    pub was_empty : IfSome (disk.content old.disk) (λ before. length before ≡ 0)
+    pub unwritten : IsUnwritten disk old.disk new.disk
+    pub given : GivesLine sink old.sink new.sink line SomeRefused status
 
   -- The script was read to its end, the disk was empty, and the making of its store ended so.
   pub record MakesStore : Type 0 where
     pub bytes : List ℕ
-    pub took : Took source old.0 new.0 bytes
-    pub read : IsRead source old.0 new.0
+    pub took : Took source old.source new.source bytes
+    pub read : IsRead source old.source new.source
     pub within : length bytes ≤ MOST_BYTES
-    pub was_empty : IfSome (disk.content old.2) (λ before. length before ≡ 0)
+    pub was_empty : IfSome (disk.content old.disk) (λ before. length before ≡ 0)
     pub payloads : List (List ℕ)
     pub lines : List ℕ
     pub made : command.makes bytes payloads lines
-    pub ends : EndsMaking sink disk (old.1, old.2) (new.1, new.2) payloads lines status
+    pub ends : EndsMaking sink disk (old.sink, old.disk) (new.sink, new.disk) payloads lines status
 
   -- how the command ends
   abbrev pub Ends : Type 0
@@ -123,15 +124,15 @@ pub record RefusesAtOnce (part : PartMeaning) {S : Type 0} (source : OfSource.Gh
 -- ---- a disk that is not empty
 
 module _ {S K D : Type 0} (source : OfSource.Ghosts S) (sink : OfSink.Ghosts K) (disk : OfDisk.Ghosts D)
-    (old new : S × K × D) (status : Status) where
+    (old new : Devices S K D) (status : Status) where
   -- If the disk is not empty, nothing was taken from the source, and nothing was written to the disk. The line `store
   -- refused: log-exists` was written, or a prefix of it and the sink failed; or the disk failed, and nothing was
   -- written.
   abbrev pub KeepsStore : Type 0
-  KeepsStore = IfSome (disk.content old.2) (λ bytes. 0 < length bytes
-      → (new.0 ≡ old.0) × IsUnwritten disk old.2 new.2
-      × (GivesLine sink old.1 new.1 (refusal_line LogExists) StoreRefused status
-      ⊎ (status ≡ DiskFault) × (new.1 ≡ old.1)))
+  KeepsStore = IfSome (disk.content old.disk) (λ bytes. 0 < length bytes
+      → (new.source ≡ old.source) × IsUnwritten disk old.disk new.disk
+      × (GivesLine sink old.sink new.sink (refusal_line LogExists) StoreRefused status
+      ⊎ (status ≡ DiskFault) × (new.sink ≡ old.sink)))
 
 -- ---- a command without a fault
 
@@ -159,9 +160,10 @@ pub record IsComplete (command : Command) (bytes : List ℕ) (status : Status) :
       → IsRefused status
 
 module _ {S K D : Type 0} (source : OfSource.Ghosts S) (sink : OfSink.Ghosts K) (disk : OfDisk.Ghosts D)
-    (command : Command) (old new : S × K × D) (status : Status) where
+    (command : Command) (old new : Devices S K D) (status : Status) where
   -- over an empty disk and a source of at most 2^30 bytes the command is complete if no device failed
   abbrev pub Completes : Type 0
-  Completes = disk.content old.2 ≡ Some [] → IfSome (source.left old.0) (λ bytes. length bytes ≤ MOST_BYTES
-      → (SourceFailed source old.0 new.0 → ⊥) → (SinkFailed sink old.1 new.1 → ⊥) → (DiskFailed disk old.2 new.2 → ⊥)
+  Completes = disk.content old.disk ≡ Some [] → IfSome (source.left old.source) (λ bytes. length bytes ≤ MOST_BYTES
+      → (SourceFailed source old.source new.source → ⊥) → (SinkFailed sink old.sink new.sink → ⊥)
+      → (DiskFailed disk old.disk new.disk → ⊥)
       → IsComplete command bytes status)

@@ -1,7 +1,7 @@
 -- For the helpers of the commands: what was read of a script, and how a refusal is written.
 use Rattle.std.specs.Prelude.{◌≡◌, ◌⊎◌, ℕ, ◌+◌, ◌≤◌, List, [], length, Result}
 use Rattle.accepted_programs.specs.Program.{lens_of}
-use Rattle.accepted_programs.specs.Refused.{IsKnown, IsRefusal}
+use Rattle.accepted_programs.specs.Refused.{IsKnown, IsProgramRefusal}
 use Rattle.accepted_programs.specs.declared.program.Refused.{Refused}
 use Rattle.lens_forms.specs.Forms.{FormTree}
 use Rattle.lens_io.specs.Calls.{Took, IsRead, Gave}
@@ -56,7 +56,7 @@ module _ {S : Type 0} (source : OfSource.Ghosts S) (old new : S) where
     pub took : Took source old new bytes
     pub at_most : length bytes ≤ MOST_BYTES + 1
     pub whole : IsWhole source old new bytes
-    pub is : IsRefusal (lens_of (program_part bytes)) refused
+    pub is : IsProgramRefusal (lens_of (program_part bytes)) refused
     pub known : IsKnown refused
 
   -- why a script was not read to its end, or has no program

@@ -5,7 +5,7 @@ ghost use Rattle.doc_values.specs.Types.{ty_tree};
 ghost use Rattle.doc_values.specs.Typing.{has};
 ghost use Rattle.edit_journal.specs.EntryJson.{tree_of_text};
 ghost use Rattle.lens_io.specs.Calls.{SourceFailed};
-ghost use Rattle.script_input.specs.Taking.{IsWithin};
+ghost use Rattle.script_input.specs.Taking.{IsTakenWithin};
 ghost use Rattle.store_new.specs.Found.{added, added_last, added_all, document_of_found, IsDocumentFault, FindsRest};
 ghost use Rattle.store_new.specs.Found.{StopsRest};
 ghost use Rattle.store_new.specs.Import.{document_of_line, if_json, if_typed};
@@ -73,7 +73,7 @@ pub(crate) fn find_lines<S: Source>(
     piece: &mut [u8],
 ) -> Result<Found, TakeFault>
     requires some { 0 < length piece.old }
-    requires within { IsWithin input }
+    requires within { IsTakenWithin input }
     ensures found { MatchResult result
         (FindsRest S.Source source.old source.new input)
         (StopsRest S.Source source.old source.new input) }

@@ -3,7 +3,7 @@ ghost use Rattle.std.specs.Prelude.{◌≡◌, ◌⊎◌, Result};
 ghost use Rattle.lens_io.specs.Calls.{SinkFailed};
 ghost use Rattle.lens_forms.specs.Forms.{FormTree};
 ghost use Rattle.accepted_programs.specs.Program.{Refusal};
-ghost use Rattle.accepted_programs.specs.Refused.{IsKnown, IsRefusal};
+ghost use Rattle.accepted_programs.specs.Refused.{IsKnown, IsProgramRefusal};
 ghost use Rattle.store_new.specs.NewEnds.{GivesLine};
 ghost use Rattle.store_new.specs.ScriptReading.{RefusesWith};
 ghost use Rattle.store_new.specs.Scripts.{one_program};
@@ -29,7 +29,7 @@ pub fn give_line<K: Sink>(sink: &mut K, line: &[u8], status: Status) -> Status
 /// Ends a command whose program part is refused, with its line. If memory ran out, nothing is written.
 pub fn refuse_program<K: Sink>(alloc: Global, refused: Refused, sink: &mut K) -> Status
     requires { IsKnown refused }
-    ensures refuses { (outcome : Result FormTree Refusal) → IsRefusal outcome refused
+    ensures refuses { (outcome : Result FormTree Refusal) → IsProgramRefusal outcome refused
         → RefusesWith one_program K.Sink sink.old sink.new outcome result }
     ensures sink_fault { result ≡ Status.SinkFault → SinkFailed K.Sink sink.old sink.new }
 {

@@ -1,6 +1,6 @@
 //! The command `import`.
 ghost use Rattle.std.specs.Prelude.{◌≡◌, ◌≤◌, ◌++◌, length, true, IfOk, IfSome, IsErrOf, MatchResult, Ok, Some};
-ghost use Rattle.command_ends.specs.Statuses.{IsAmong, import_statuses};
+ghost use Rattle.command_ends.specs.Statuses.{IsStatusAmong, import_statuses};
 ghost use Rattle.answer_text.specs.Lines.{ok_line};
 ghost use Rattle.doc_values.specs.Documents.{DocTree, doc_tree};
 ghost use Rattle.doc_values.specs.Types.{height};
@@ -11,7 +11,7 @@ ghost use Rattle.edit_module.specs.Views.{entry_tree, word_tree};
 ghost use Rattle.edit_session.specs.Step.{IsInStep, document_on, step};
 ghost use Rattle.edit_session.specs.Views.{triple_tree};
 ghost use Rattle.pair_answers.specs.Answers.{state_lines};
-ghost use Rattle.pair_answers.specs.ItemRuns.{first_of};
+ghost use Rattle.pair_answers.specs.ItemRuns.{triple_at_first};
 ghost use Rattle.lens_core.specs.LensOf.{IsLensOf};
 ghost use Rattle.lens_core.specs.Sides.{near};
 ghost use Rattle.lens_forms.specs.Forms.{form_tree, left_type, right_type};
@@ -28,6 +28,7 @@ ghost use Rattle.store_new.specs.Import.{Imports, RefusesImport, import_command}
 ghost use Rattle.store_new.specs.Making.{EndsPlan};
 ghost use Rattle.store_new.specs.NewRooms.{PlanHasNoRoom, ScriptHasNoRoom};
 ghost use Rattle.store_new.specs.ImportStores.{EndsImport, IsEntryText, IsFoundStore, IsImportStore, MakesDocument};
+ghost use Rattle.store_run.specs.Devices.{devices_of};
 
 use crate::document::{DocumentFault, Found, document_of, find_lines};
 use crate::scripts::status_at;
@@ -102,22 +103,24 @@ pub fn import<S: Source, K: Sink, D: Disk>(
     disk: &mut D,
 ) -> Status
     ensures imports { result ≡ Status.Done
-        → Imports S.Source K.Sink D.Disk (source.old, sink.old, disk.old) (source.new, sink.new, disk.new) }
+        → Imports S.Source K.Sink D.Disk (devices_of source.old sink.old disk.old)
+        (devices_of source.new sink.new disk.new) }
     ensures refuses { result ≡ Status.SomeRefused
-        → RefusesImport S.Source K.Sink D.Disk (source.old, sink.old, disk.old) (source.new, sink.new, disk.new) }
+        → RefusesImport S.Source K.Sink D.Disk (devices_of source.old sink.old disk.old)
+        (devices_of source.new sink.new disk.new) }
     ensures ends { Ends S.Source K.Sink D.Disk import_command
-        (source.old, sink.old, disk.old) (source.new, sink.new, disk.new) result }
+        (devices_of source.old sink.old disk.old) (devices_of source.new sink.new disk.new) result }
     ensures at_once { RefusesAtOnce one_program S.Source source.old source.new result }
     ensures exists { KeepsStore S.Source K.Sink D.Disk
-        (source.old, sink.old, disk.old) (source.new, sink.new, disk.new) result }
-    ensures statuses { IsAmong import_statuses result }
+        (devices_of source.old sink.old disk.old) (devices_of source.new sink.new disk.new) result }
+    ensures statuses { IsStatusAmong import_statuses result }
     ensures source_fault { result ≡ Status.SourceFault → SourceFailed S.Source source.old source.new }
     ensures sink_fault { result ≡ Status.SinkFault → SinkFailed K.Sink sink.old sink.new }
     ensures disk_fault { result ≡ Status.DiskFault → DiskFailed D.Disk disk.old disk.new }
     ensures room { result ≡ Status.DiskFault
         → IfSome (D.room disk.old) (ScriptHasNoRoom S.Source import_command source.old source.new) }
     ensures complete { Completes S.Source K.Sink D.Disk import_command
-        (source.old, sink.old, disk.old) (source.new, sink.new, disk.new) result }
+        (devices_of source.old sink.old disk.old) (devices_of source.new sink.new disk.new) result }
 {
     match disk.len() {
         Ok(0) => import_empty(alloc, source, sink, disk),
@@ -135,7 +138,7 @@ fn import_empty<S: Source, K: Sink, D: Disk>(
 ) -> Status
     requires empty { IfSome (D.content disk.old) (λ bytes. length bytes ≡ 0) }
     ensures ends { Ends S.Source K.Sink D.Disk import_command
-        (source.old, sink.old, disk.old) (source.new, sink.new, disk.new) result }
+        (devices_of source.old sink.old disk.old) (devices_of source.new sink.new disk.new) result }
     ensures source_fault { result ≡ Status.SourceFault → SourceFailed S.Source source.old source.new }
     ensures sink_fault { result ≡ Status.SinkFault → SinkFailed K.Sink sink.old sink.new }
     ensures disk_fault { result ≡ Status.DiskFault → DiskFailed D.Disk disk.old disk.new }
@@ -264,7 +267,7 @@ fn text_of_step<L: EditLens>(
     requires of_form { IsLensOf (L.left_type session.old.lens) (L.right_type session.old.lens)
         (L.start session.old.lens) (L.holds session.old.lens) (L.carried session.old.lens)
         (form_tree lens.now) }
-    requires first { triple_tree session.old.triple ≡ first_of (form_tree lens.now) }
+    requires first { triple_tree session.old.triple ≡ triple_at_first (form_tree lens.now) }
     requires typed { has (left_type (form_tree lens.now)) (doc_tree doc.now) ≡ true }
     ensures { IfOk result (λ e. IsEntryText (form_tree lens.now) (doc_tree doc.now) e.payload e.lines.items) }
 {

@@ -1,6 +1,6 @@
 //! The command `init`.
 ghost use Rattle.std.specs.Prelude.{◌≡◌, List, ℕ, length, IfOk, IfSome};
-ghost use Rattle.command_ends.specs.Statuses.{IsAmong, init_statuses};
+ghost use Rattle.command_ends.specs.Statuses.{IsStatusAmong, init_statuses};
 ghost use Rattle.lens_io.specs.Calls.{SourceFailed, SinkFailed, DiskFailed};
 ghost use Rattle.edit_session.specs.Views.{triple_tree};
 ghost use Rattle.lens_forms.specs.Forms.{form_tree, left_type, right_type};
@@ -9,7 +9,7 @@ ghost use Rattle.lens_core.specs.Consistency.{IsConsistent};
 ghost use Rattle.lens_core.specs.LensOf.{IsLensOf};
 ghost use Rattle.lens_core.specs.Translation.{translate};
 ghost use Rattle.pair_answers.specs.Answers.{state_lines};
-ghost use Rattle.pair_answers.specs.ItemRuns.{first_of};
+ghost use Rattle.pair_answers.specs.ItemRuns.{triple_at_first};
 ghost use Rattle.program_terms.specs.Views.{program_tree};
 ghost use Rattle.store_new.specs.NewEnds.{Completes, Ends, KeepsStore, RefusesAtOnce};
 ghost use Rattle.store_new.specs.Init.{Starts, init_command};
@@ -17,6 +17,7 @@ ghost use Rattle.store_new.specs.Making.{EndsPlan};
 ghost use Rattle.store_new.specs.NewRooms.{PlanHasNoRoom, ScriptHasNoRoom};
 ghost use Rattle.store_new.specs.Scripts.{one_program};
 ghost use Rattle.store_new.specs.InitStores.{IsFirstStore};
+ghost use Rattle.store_run.specs.Devices.{devices_of};
 
 use crate::scripts::status_at;
 use crate::{LOG_EXISTS, StoreText, Unread, give_line, make_store, read_script, refuse_program};
@@ -63,20 +64,21 @@ pub fn init<S: Source, K: Sink, D: Disk>(
     disk: &mut D,
 ) -> Status
     ensures starts { result ≡ Status.Done
-        → Starts S.Source K.Sink D.Disk (source.old, sink.old, disk.old) (source.new, sink.new, disk.new) }
+        → Starts S.Source K.Sink D.Disk (devices_of source.old sink.old disk.old)
+        (devices_of source.new sink.new disk.new) }
     ensures ends { Ends S.Source K.Sink D.Disk init_command
-        (source.old, sink.old, disk.old) (source.new, sink.new, disk.new) result }
+        (devices_of source.old sink.old disk.old) (devices_of source.new sink.new disk.new) result }
     ensures at_once { RefusesAtOnce one_program S.Source source.old source.new result }
     ensures exists { KeepsStore S.Source K.Sink D.Disk
-        (source.old, sink.old, disk.old) (source.new, sink.new, disk.new) result }
-    ensures statuses { IsAmong init_statuses result }
+        (devices_of source.old sink.old disk.old) (devices_of source.new sink.new disk.new) result }
+    ensures statuses { IsStatusAmong init_statuses result }
     ensures source_fault { result ≡ Status.SourceFault → SourceFailed S.Source source.old source.new }
     ensures sink_fault { result ≡ Status.SinkFault → SinkFailed K.Sink sink.old sink.new }
     ensures disk_fault { result ≡ Status.DiskFault → DiskFailed D.Disk disk.old disk.new }
     ensures room { result ≡ Status.DiskFault
         → IfSome (D.room disk.old) (ScriptHasNoRoom S.Source init_command source.old source.new) }
     ensures complete { Completes S.Source K.Sink D.Disk init_command
-        (source.old, sink.old, disk.old) (source.new, sink.new, disk.new) result }
+        (devices_of source.old sink.old disk.old) (devices_of source.new sink.new disk.new) result }
 {
     match disk.len() {
         Ok(0) => init_empty(alloc, source, sink, disk),
@@ -94,7 +96,7 @@ fn init_empty<S: Source, K: Sink, D: Disk>(
 ) -> Status
     requires empty { IfSome (D.content disk.old) (λ bytes. length bytes ≡ 0) }
     ensures ends { Ends S.Source K.Sink D.Disk init_command
-        (source.old, sink.old, disk.old) (source.new, sink.new, disk.new) result }
+        (devices_of source.old sink.old disk.old) (devices_of source.new sink.new disk.new) result }
     ensures source_fault { result ≡ Status.SourceFault → SourceFailed S.Source source.old source.new }
     ensures sink_fault { result ≡ Status.SinkFault → SinkFailed K.Sink sink.old sink.new }
     ensures disk_fault { result ≡ Status.DiskFault → DiskFailed D.Disk disk.old disk.new }
@@ -139,7 +141,8 @@ fn first_store(alloc: Global, accepted: &Accepted) -> Result<StoreText, AllocErr
 
 // The state lines of the first triple of a lens.
 fn first_lines(alloc: Global, lens: &Typed) -> Result<Vec<u8>, AllocError>
-    ensures { IfOk result (λ lines. lines.items ≡ state_lines (form_tree lens.now) (first_of (form_tree lens.now))) }
+    ensures { IfOk result
+        (λ lines. lines.items ≡ state_lines (form_tree lens.now) (triple_at_first (form_tree lens.now))) }
 {
     let session = first_session(alloc, lens)?;
     let lines = state_lines(alloc, lens, &session);
@@ -154,7 +157,7 @@ pub fn first_session(alloc: Global, lens: &Typed) -> Result<Session<Flat>, Alloc
         (right_type (form_tree s.lens.typed))
         (missing (form_tree s.lens.typed)) (IsConsistent (form_tree s.lens.typed)) (translate (form_tree s.lens.typed))
         (form_tree lens.now)) }
-    ensures first { IfOk result (λ s. triple_tree s.triple ≡ first_of (form_tree lens.now)) }
+    ensures first { IfOk result (λ s. triple_tree s.triple ≡ triple_at_first (form_tree lens.now)) }
 {
     let lens = Flat::compile(alloc, lens)?;
     Session::start(alloc, lens)

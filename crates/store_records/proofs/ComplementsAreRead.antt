@@ -22,23 +22,24 @@ use Rattle.lens_forms.specs.Typing.{is_typed, are_typed_rows, are_typed_arms, le
 use Rattle.doc_values.specs.Types.{are_distinct, are_choices}
 use Rattle.lens_core.specs.Tags.{tag_count, tag_name, tag_number}
 use Rattle.lens_core.specs.Complements.{CompTree, nil, then_comp, rec_comp, alt_comp, hold_comp, tags_comp, CompTrees, no_comps, more_comps, comp_count, IsNil, Fits, FitRows, FitsArm, AllFit}
-use Rattle.complement_file.specs.ComplementJson.{tree_of_complement, one, two, row_items, place_items, tag_items, tree_in_arm, arm_with}
+use Rattle.complement_file.specs.ComplementJson.{tree_of_complement, row_items, place_items, tag_items, tree_in_arm, arm_with}
+use Rattle.value_json.specs.SmallTrees.{one_member, array_of_two}
 use Rattle.complement_file.specs.Reading.{IsComplement, ArePlaces, AreRows, AreTags, IsTag, nodes_tree, member_contents}
 use Rattle.complement_file.proofs.Arms.{found_step, arm_is_there, arm_fits, arm_tree_is}
 use Rattle.complement_file.proofs.ReadPlaces.{names_again, contents_again}
 use Rattle.complement_file.proofs.ReadTags.{is_tag, tag_found, tag_absent}
 use Rattle.complement_file.proofs.ReadForms.{pair_found, rec_found, tagged_found, list_found, keyed_found, nodes_found, tags_found}
 use Rattle.complement_file.proofs.TreesDiffer.{apart}
-use Rattle.store_records.specs.StoredComplements.{nothing_of, content_under, both_items, each_complement, list_of, keyed_of, ordered_of, tag_numbers_of, held_by_keys, held_by_depths, of_both, of_tagged, complement_of, row_complements, arm_complement}
+use Rattle.store_records.specs.StoredComplements.{nothing_of, content_under, both_items, each_complement, comp_list_of, keyed_of, ordered_of, tag_numbers_of, held_by_keys, held_by_depths, of_both, of_tagged, complement_of, row_complements, arm_complement}
 use Rattle.std.proofs.lemmas.Bool.{eqb-true, ltb-true}
 use Rattle.texts.proofs.Tests.{bytes_eq-is}
 
 -- ---- the parts of trees
 
-under_is : (name : List ℕ) (t d : Data) → content_under name t ≡ Some d → one name d ≡ t
+under_is : (name : List ℕ) (t d : Data) → content_under name t ≡ Some d → one_member name d ≡ t
 under_is name (object (member k e no_members)) d h =
     let p = if_some (bytes_eq k name) e d h in
-    ap₂ one (sym (bytes_eq-is k name p.0)) (sym p.1)
+    ap₂ one_member (sym (bytes_eq-is k name p.0)) (sym p.1)
 under_is name t d h = cc
 
 array_is : (t : Data) (ds : Items) → as_array t ≡ Some ds → array ds ≡ t
@@ -49,18 +50,18 @@ object_is : (t : Data) (ms : Members) → as_object t ≡ Some ms → object ms 
 object_is (object ns) ms h = let e : ns ≡ ms = cc in ap object (sym e)
 object_is t ms h = cc
 
-pair_is : (t : Data) (p : Data × Data) → both_items t ≡ Some p → two p.0 p.1 ≡ t
-pair_is (array (item d (item e no_items))) p h = ap (λ (q : Data × Data). two q.0 q.1) (sym (same_Some _ _ h))
+pair_is : (t : Data) (p : Data × Data) → both_items t ≡ Some p → array_of_two p.0 p.1 ≡ t
+pair_is (array (item d (item e no_items))) p h = ap (λ (q : Data × Data). array_of_two q.0 q.1) (sym (same_Some _ _ h))
 pair_is t p h = cc
 
-under_array : (name : List ℕ) (t : Data) (ds : Items) → option_and_then as_array (content_under name t) ≡ Some ds → one name (array ds) ≡ t
-under_array name t ds h = let a = bind_some as_array (content_under name t) ds h in ap (one name) (array_is a.0 ds a.2) ∙ under_is name t a.0 a.1
+under_array : (name : List ℕ) (t : Data) (ds : Items) → option_and_then as_array (content_under name t) ≡ Some ds → one_member name (array ds) ≡ t
+under_array name t ds h = let a = bind_some as_array (content_under name t) ds h in ap (one_member name) (array_is a.0 ds a.2) ∙ under_is name t a.0 a.1
 
-under_object : (name : List ℕ) (t : Data) (ms : Members) → option_and_then as_object (content_under name t) ≡ Some ms → one name (object ms) ≡ t
-under_object name t ms h = let a = bind_some as_object (content_under name t) ms h in ap (one name) (object_is a.0 ms a.2) ∙ under_is name t a.0 a.1
+under_object : (name : List ℕ) (t : Data) (ms : Members) → option_and_then as_object (content_under name t) ≡ Some ms → one_member name (object ms) ≡ t
+under_object name t ms h = let a = bind_some as_object (content_under name t) ms h in ap (one_member name) (object_is a.0 ms a.2) ∙ under_is name t a.0 a.1
 
-under_pair : (name : List ℕ) (t : Data) (p : Data × Data) → option_and_then both_items (content_under name t) ≡ Some p → one name (two p.0 p.1) ≡ t
-under_pair name t p h = let a = bind_some both_items (content_under name t) p h in ap (one name) (pair_is a.0 p a.2) ∙ under_is name t a.0 a.1
+under_pair : (name : List ℕ) (t : Data) (p : Data × Data) → option_and_then both_items (content_under name t) ≡ Some p → one_member name (array_of_two p.0 p.1) ≡ t
+under_pair name t p h = let a = bind_some both_items (content_under name t) p h in ap (one_member name) (pair_is a.0 p a.2) ∙ under_is name t a.0 a.1
 
 nodes_are : (t : Data) (p : Items × Items) → depths_and_items t ≡ Some p
     → object (member (codes "depths") (array p.0) (member (codes "items") (array p.1) no_members)) ≡ t
@@ -75,7 +76,7 @@ nodes_are t p h = cc
 under_nodes : (t : Data) (p : Items × Items) → option_and_then depths_and_items (content_under (codes "tree") t) ≡ Some p → nodes_tree p.0 p.1 ≡ t
 under_nodes t p h =
     let a = bind_some depths_and_items (content_under (codes "tree") t) p h in
-    ap (one (codes "tree")) (nodes_are a.0 p a.2) ∙ under_is (codes "tree") t a.0 a.1
+    ap (one_member (codes "tree")) (nodes_are a.0 p a.2) ∙ under_is (codes "tree") t a.0 a.1
 
 -- ---- what is read fits and has the tree
 
@@ -106,7 +107,7 @@ each_sound l s (item d ds) cs h =
 
 list_sound : (l : FormTree) → IsSound l → IsSound (form_each l)
 list_sound l s t c h =
-    let m = map_some list_of (option_and_then (each_complement (complement_of l)) (option_and_then as_array (content_under (codes "list") t))) c h in
+    let m = map_some comp_list_of (option_and_then (each_complement (complement_of l)) (option_and_then as_array (content_under (codes "list") t))) c h in
     let b = bind_some (each_complement (complement_of l)) (option_and_then as_array (content_under (codes "list") t)) m.0 m.1 in
     subst (IsComplement (form_each l) t) m.2 (list_found l t b.0 m.0 (comp_count m.0) (under_array (codes "list") t b.0 b.1) (each_sound l s b.0 m.0 b.2) refl)
 
@@ -247,7 +248,7 @@ number_back fs k (Some q) e typed h =
     let below : nat_lt q.0 (tag_count fs) ≡ true = grind (arith, nat_tests, f.0) in
     let same = apart (form_part fs) typed (tags_comp (q.0 ∷ [])) (tags_comp (k ∷ []))
     (both_true (nat_lt q.0 (tag_count fs)) true below refl) (both_true (nat_lt k (tag_count fs)) true h refl)
-    (ap (λ n. one (codes "tags") (array (item (string n) no_items))) f.1) in
+    (ap (λ n. one_member (codes "tags") (array (item (string n) no_items))) f.1) in
     ap Some (only_number q.0 k same)
 
 tags_back : (fs : FieldTrees) (ks : List ℕ) → is_typed (form_part fs) ≡ true → are_below (tag_count fs) ks ≡ true → tag_numbers_of fs (tag_items fs ks) ≡ Some ks

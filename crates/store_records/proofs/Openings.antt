@@ -1,7 +1,7 @@
 -- The lens of a text, as the reader and the checker of programs return it.
 use Rattle.std.proofs.Common.{◌≡◌, None, Result, Ok, refl, ap}
 use Rattle.program_terms.specs.Terms.{ProgramTree}
-use Rattle.lens_syntax.specs.Programs.{ProgramCause, cause_of, IsRefusal}
+use Rattle.lens_syntax.specs.Programs.{ProgramCause, program_fault_cause, IsTextRefusal}
 use Rattle.lens_syntax.specs.declared.fault.ProgramFault.{ProgramFault}
 use Rattle.lens_syntax.specs.declared.fault.ProgramFault.TheVariants as reading
 use Rattle.lens_types.specs.Checking.{first_failure}
@@ -12,7 +12,7 @@ use Rattle.accepted_programs.specs.Program.{form_of_program, form_without_failur
 use Rattle.store_records.specs.StoredLens.{accepted}
 
 -- a text that the reader refuses has no lens
-pub text_has_none : (wanted : Result ProgramTree ProgramCause) (fault : ProgramFault) → IsRefusal (cause_of fault) wanted → (fault ≡ reading.NoMemory → ⊥)
+pub text_has_none : (wanted : Result ProgramTree ProgramCause) (fault : ProgramFault) → IsTextRefusal (program_fault_cause fault) wanted → (fault ≡ reading.NoMemory → ⊥)
     → accepted (form_of_program wanted) ≡ None
 text_has_none wanted reading.ProgramTooLong h known = ap (λ r. accepted (form_of_program r)) h
 text_has_none wanted (reading.NotAProgram at) h known = ap (λ r. accepted (form_of_program r)) h

@@ -13,14 +13,11 @@ use Rattle.value_json.specs.DocumentJson.{tree_of_document}
 use Rattle.edit_module.specs.Changes.{ChangeTree, one, group}
 use Rattle.edit_journal.specs.EntryJson.{LineFault, tree_of_entry, tree_of_change, change_of_tree, tree_of_text}
 use Rattle.lens_forms.specs.Forms.{FormTree, left_type, right_type}
+use Rattle.value_json.specs.SmallTrees.{one_member}
 use Rattle.complement_file.specs.ComplementJson.{tree_of_complement}
 use Rattle.lens_core.specs.Complements.{CompTree}
 
 -- ---- the records that this program writes
-
--- an object with one member
-abbrev pub one_member : List ℕ → Data → Data
-one_member name content = object (member name content no_members)
 
 -- the program of this canonical text, in a store of version 2
 abbrev pub tree_of_program : List ℕ → Data

@@ -40,8 +40,8 @@ each_complement of no_items = Some no_comps
 each_complement of (item d ds) = option_and_then (λ c. option_map (more_comps c) (each_complement of ds)) (of d)
 
 -- the complements at the places of a list, of a keyed map whose keys rise, and of an ordered tree
-abbrev pub list_of : CompTrees → CompTree
-list_of cs = hold_comp (ListOf (record { count = comp_count cs })) cs
+abbrev pub comp_list_of : CompTrees → CompTree
+comp_list_of cs = hold_comp (ListOf (record { count = comp_count cs })) cs
 
 abbrev pub keyed_of : List (List ℕ) → CompTrees → Option CompTree
 keyed_of ks cs = if is_rising ks then Some (hold_comp (KeyedOf ks) cs) else None
@@ -59,7 +59,7 @@ tag_numbers_of fs (item d ds) =
 -- the complement of a list, of a keyed map and of an ordered tree, whose contents a reader gives
 abbrev pub held_in_list : (Data → Option CompTree) → Data → Option CompTree
 held_in_list of d =
-    option_map list_of (option_and_then (each_complement of)
+    option_map comp_list_of (option_and_then (each_complement of)
     (option_and_then as_array (content_under (codes "list") d)))
 
 abbrev pub held_by_keys : (Data → Option CompTree) → Members → Option CompTree

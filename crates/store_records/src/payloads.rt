@@ -18,7 +18,8 @@ ghost use Rattle.program_terms.specs.Views.{program_tree};
 ghost use Rattle.program_writing.specs.Canonical.{canonical};
 ghost use Rattle.value_json.specs.DocumentJson.{holds_i64s, tree_of_document};
 ghost use Rattle.store_records.specs.RecordJson.{tree_of_program, tree_of_version, tree_of_change_record};
-ghost use Rattle.store_records.specs.RecordJson.{tree_of_triple, tree_of_snapshot, one_member};
+ghost use Rattle.store_records.specs.RecordJson.{tree_of_triple, tree_of_snapshot};
+ghost use Rattle.value_json.specs.SmallTrees.{one_member};
 
 use crate::parts::VERSION;
 use crate::text::payload_of;

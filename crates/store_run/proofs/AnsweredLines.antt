@@ -21,7 +21,8 @@ use Rattle.edit_journal.proofs.Feeding.{lines_at, joins, in_front}
 use Rattle.script_input.specs.Taking.{TakenInput, TakesMore, TakesNone, StopsAt, CallsOnce}
 use Rattle.script_input.specs.declared.limits.TheConstants.{MOST_BYTES}
 use Rattle.script_input.proofs.LastCalls.{but_last}
-use Rattle.store_run.specs.Answered.{ended_lines, Answers, StopsAmong, AllAt, AnswersFirst, StopsPieces, EndsPieces, ComesOn, AnswersThenTakes, StopsTurn}
+use Rattle.store_run.specs.Answered.{Answers, StopsAmong, AllAt, AnswersFirst, StopsPieces, EndsPieces, ComesOn, AnswersThenTakes, StopsTurn}
+use Rattle.script_input.specs.Coming.{ended_lines}
 use Rattle.store_run.specs.Effects.{HoldsFirst, StandsOn, Adds, Stops}
 use Rattle.store_run.specs.OkLines.{IsAnswer}
 use Rattle.store_run.specs.StoreRuns.{GoesOver, AreSteps, AreAnsweredIn, last, text_of, kept_of}

@@ -15,6 +15,7 @@ use Rattle.gate_log.specs.CallEnds.{IsLogRefusal}
 use Rattle.gate_log.specs.LogOnDisk.{LogState, HoldsPayloads}
 use Rattle.gate_log.specs.declared.fault.LogFault.{LogFault}
 use Rattle.gate_log.specs.declared.fault.LogFault.TheVariants as log
+use Rattle.store_run.specs.Devices.{devices_of}
 use Rattle.store_run.specs.Refusals.{IsOpening}
 use Rattle.store_run.specs.Effects.{HoldsFirst, StandsOn}
 use Rattle.store_run.specs.ApplyEnds.{status_of, Exits, Continues, IsSafeFrom}
@@ -66,7 +67,7 @@ module _ {S K D A : Type 0} (source : OfSource.Ghosts S) (sink : OfSink.Ghosts K
 
   module _ (i i' : S) (k k' : K) (d d' : D) (l l' : LogState) (before : Payloads) (version : Option (List ℕ)) (t t' : session.State) (status : Status) where
     continued : Continues source sink disk session (i, k, d, l) (i', k', d', l') (option_to_list version) t t' status → StandsOn disk d l before → session.stands_for before ≡ Ok (t, version)
-        → ContinuesCall source sink disk session (i, k) (i', k', d') before t version status
+        → ContinuesCall source sink disk session (i, k) (devices_of i' k' d') before t version status
     continued c s h = record {
       bytes = c.bytes;
       consumes = c.consumes;
@@ -82,7 +83,7 @@ module _ {S K D A : Type 0} (source : OfSource.Ghosts S) (sink : OfSink.Ghosts K
     }
 
     pub continues_call : Exits source sink disk session (i, k, d, l) (i', k', d', l') (option_to_list version) t t' status → IsFinished status
-        → StandsOn disk d l before → session.stands_for before ≡ Ok (t, version) → ContinuesCall source sink disk session (i, k) (i', k', d') before t version status
+        → StandsOn disk d l before → session.stands_for before ≡ Ok (t, version) → ContinuesCall source sink disk session (i, k) (devices_of i' k' d') before t version status
     continues_call (inl c) f s h = continued c s h
     continues_call (inr (inl e)) f s h = elim e.short [ inl x ↦ no_stop NoMemory status _ x.0 f | inr x ↦ no_stop SinkFault status _ x.0 f ]
     continues_call (inr (inr e)) f s h = elim e.status_is [ inl x ↦ no_stop e.stop status _ x.0 f | inr x ↦ no_stop SinkFault status _ x.1 f ]
@@ -91,8 +92,8 @@ module _ {S K D A : Type 0} (source : OfSource.Ghosts S) (sink : OfSink.Ghosts K
 
   module _ (i i' : S) (k k' : K) (d d' : D) (before : Payloads) (version : Option (List ℕ)) (t : session.State) where
     -- the store went on from there
-    pub safe_call : (l : LogState) → IsSafeFrom source sink disk session (i, k, d, l) (i', k', d') (option_to_list version) t → StandsOn disk d l before → session.stands_for before ≡ Ok (t, version)
-        → IsSafeCall source sink disk session (i, k, d) (i', k', d') (HoldsPayloads before) before t version
+    pub safe_call : (l : LogState) → IsSafeFrom source sink disk session (i, k, d, l) (devices_of i' k' d') (option_to_list version) t → StandsOn disk d l before → session.stands_for before ≡ Ok (t, version)
+        → IsSafeCall source sink disk session (devices_of i k d) (devices_of i' k' d') (HoldsPayloads before) before t version
     safe_call l s st h = record {
       bytes = s.bytes;
       consumes = s.consumes;
@@ -110,7 +111,7 @@ module _ {S K D A : Type 0} (source : OfSource.Ghosts S) (sink : OfSink.Ghosts K
 
     -- nothing was read, and the store is as it was
     pub safe_unread : (l : LogState) → IsUnasked source i i' → GivesOther sink k k' → StandsOn disk d' l before → LeavesOnly disk d d' (HoldsPayloads before) → session.stands_for before ≡ Ok (t, version)
-        → IsSafeCall source sink disk session (i, k, d) (i', k', d') (HoldsPayloads before) before t version
+        → IsSafeCall source sink disk session (devices_of i k d) (devices_of i' k' d') (HoldsPayloads before) before t version
     safe_unread l unasked given st moments h = record {
       bytes = [];
       consumes = took_none source i i' unasked;
@@ -129,8 +130,8 @@ module _ {S K D A : Type 0} (source : OfSource.Ghosts S) (sink : OfSink.Ghosts K
   -- behind calls of the disk that left no other image
   pub safe_later : (past past' : List ℕ → Type 0) (i i' : S) (k k' : K) (d d1 d' : D) (before : Payloads) (version : Option (List ℕ)) (t : session.State)
       → ((kept : Payloads) (c : List ℕ) → past c → past' c ⊎ HoldsFirst before kept c) → LeavesOnly disk d d1 past'
-      → IsSafeCall source sink disk session (i, k, d1) (i', k', d') past before t version
-      → IsSafeCall source sink disk session (i, k, d) (i', k', d') past' before t version
+      → IsSafeCall source sink disk session (devices_of i k d1) (devices_of i' k' d') past before t version
+      → IsSafeCall source sink disk session (devices_of i k d) (devices_of i' k' d') past' before t version
   safe_later past past' i i' k k' d d1 d' before version t f moments s = record {
     bytes = s.bytes;
     consumes = s.consumes;
@@ -150,7 +151,7 @@ module _ {S K D A : Type 0} (source : OfSource.Ghosts S) (sink : OfSink.Ghosts K
   -- the opening's sync succeeded, and a later call of the opening failed
   pub safe_synced : (past' : List ℕ → Type 0) (i i' : S) (k k' : K) (d d' : D) (before : Payloads) (version : Option (List ℕ)) (t : session.State)
       → IsUnasked source i i' → GivesOther sink k k' → ((c : List ℕ) → disk.images d' c → HoldsPayloads before c) → LeavesOnly disk d d' past' → session.stands_for before ≡ Ok (t, version)
-      → IsSafeCall source sink disk session (i, k, d) (i', k', d') past' before t version
+      → IsSafeCall source sink disk session (devices_of i k d) (devices_of i' k' d') past' before t version
   safe_synced past' i i' k k' d d' before version t unasked given now moments h = record {
     bytes = [];
     consumes = took_none source i i' unasked;
@@ -171,7 +172,7 @@ module _ {S K D A : Type 0} (source : OfSource.Ghosts S) (sink : OfSink.Ghosts K
   -- the store was opened on this very disk
   pub opened_here : ((d : D) (c : List ℕ) → disk.images_since d (disk.moment d) c → disk.images d c) → (i i' : S) (k k' : K) (d d' : D) (l l' : LogState) (before : Payloads) (version : Option (List ℕ)) (t t' : session.State) (status : Status)
       → Exits source sink disk session (i, k, d, l) (i', k', d', l') (option_to_list version) t t' status → StandsOn disk d l before → session.stands_for before ≡ Ok (t, version)
-      → EndsOpened source sink disk session (i, k, d) (i', k', d') before t version status
+      → EndsOpened source sink disk session (devices_of i k d) (devices_of i' k' d') before t version status
   opened_here only i i' k k' d d' l l' before version t t' status exits st h = record {
     d1 = d;
     log = l;
@@ -193,8 +194,8 @@ module _ {S K D A : Type 0} (source : OfSource.Ghosts S) (sink : OfSink.Ghosts K
 pub opened_later : {S K D A : Type 0} (source : OfSource.Ghosts S) (sink : OfSink.Ghosts K) (disk : OfDisk.Ghosts D) (session : OfSession.Ghosts A)
     (i i' : S) (k k' : K) (d d1 d' : D) (before : Payloads) (t : session.State) (version : Option (List ℕ)) (status : Status)
     → IsOpening disk d d1
-    → EndsOpened source sink disk session (i, k, d1) (i', k', d') before t version status
-    → EndsOpened source sink disk session (i, k, d) (i', k', d') before t version status
+    → EndsOpened source sink disk session (devices_of i k d1) (devices_of i' k' d') before t version status
+    → EndsOpened source sink disk session (devices_of i k d) (devices_of i' k' d') before t version status
 opened_later source sink disk session i i' k k' d d1 d' before t version status first o = record {
   d1 = o.d1;
   log = o.log;

@@ -1,5 +1,5 @@
 -- How the whole call ends, and what a crash leaves then.
-use Rattle.command_ends.specs.Statuses.{end_of}
+use Rattle.command_ends.specs.Statuses.{status_at_end}
 use Rattle.std.proofs.Common.{◌≡◌, ◌⊎◌, inl, inr, ℕ, ◌+◌, ◌<◌, List, [], ◌∷◌, ◌++◌, length, take, refl, sym, ap, subst, ◌∙◌, append_assoc, append-nil, arith, length-append}
 use Rattle.std.specs.Prelude.{option_to_list, codes}
 use Rattle.std.proofs.KnownBytes.{Appends-trans, Consumes-nil}
@@ -14,7 +14,9 @@ use Rattle.edit_journal.proofs.Feeding.{all_lines_given}
 use Rattle.gate_log.specs.LogOnDisk.{LogState, HoldsPayloads}
 use Rattle.gate_log.proofs.Behind.{both_keep}
 use Rattle.script_input.specs.Taking.{TakenInput}
-use Rattle.store_run.specs.Answered.{ended_lines, Answers, StopsAmong, EndsPieces}
+use Rattle.store_run.specs.Devices.{devices_of}
+use Rattle.store_run.specs.Answered.{Answers, StopsAmong, EndsPieces}
+use Rattle.script_input.specs.Coming.{ended_lines}
 use Rattle.store_run.specs.Crash.{IsAcknowledged, IsCrashSafe}
 use Rattle.store_run.specs.Effects.{HoldsFirst, StandsOn, Adds, Stops}
 use Rattle.store_run.specs.ApplyEnds.{log_full_line, said_at, SaysStop, EndsStored, StopsStored, Continues, Exits, IsSafeFrom}
@@ -98,7 +100,7 @@ module _ {S K D A : Type 0} (source : OfSource.Ghosts S) (sink : OfSink.Ghosts K
 
   module _ (i i' : S) (k k1 k' : K) (d d' : D) (l l' : LogState) (version : Payloads) (t t' : session.State) where
     pub continues : (p : StoreProgress) (status : Status) → EndsStored source sink disk session (i, k, d, l) (i', k1, d', l') version t t' p
-        → status ≡ end_of p.refused → Gave sink k1 k' (session.state_text t') → Continues source sink disk session (i, k, d, l) (i', k', d', l') version t t' status
+        → status ≡ status_at_end p.refused → Gave sink k1 k' (session.state_text t') → Continues source sink disk session (i, k, d, l) (i', k', d', l') version t t' status
     continues p status e is h =
         let a = e.goes_on.answers in
         record {
@@ -113,12 +115,12 @@ module _ {S K D A : Type 0} (source : OfSource.Ghosts S) (sink : OfSink.Ghosts K
           given = Appends-trans (sink.held k) (sink.held k1) (sink.held k') (text_of a.steps) (session.state_text t') a.adds.given h;
           stored = λ base s. a.adds.stored (base ++ version) (e.adds.stored base s);
           behind = both_keep (e.l1.gate + 1) (l'.gate + 1) (disk.content d) (disk.content e.d1) (disk.content d') (omega (arith, a.adds.gate)) e.adds.behind a.adds.behind;
-          ended = is ∙ ap end_of a.refused;
+          ended = is ∙ ap status_at_end a.refused;
         }
 
     -- the state lines were given, or a prefix of them, or memory ran out before them
     pub exits_end : (p : StoreProgress) (status : Status) → EndsStored source sink disk session (i, k, d, l) (i', k1, d', l') version t t' p
-        → (status ≡ end_of p.refused) × AreOtherLines (session.state_text t') × Gave sink k1 k' (session.state_text t')
+        → (status ≡ status_at_end p.refused) × AreOtherLines (session.state_text t') × Gave sink k1 k' (session.state_text t')
         ⊎ (status ≡ ending.SinkFault) × AreOtherLines (session.state_text t') × GaveFront sink k1 k' (session.state_text t')
         ⊎ (status ≡ ending.NoMemory) × Gave sink k1 k' []
         → Exits source sink disk session (i, k, d, l) (i', k', d', l') version t t' status
@@ -131,7 +133,7 @@ module _ {S K D A : Type 0} (source : OfSource.Ghosts S) (sink : OfSink.Ghosts K
   -- the journal's share behind the version record's
   module _ (i i' : S) (k k' : K) (d d1 d' : D) (l l1 l' : LogState) (version : Payloads) (t t' : session.State) (n' : ℕ) (bytes : List ℕ) (lines rest : List Line) (steps : List (session.State × StoredAnswer)) where
     safe_behind : Took source i i' bytes → lines_of bytes ≡ lines ++ rest → GoesOver session t 0 lines steps t' n' → AreSteps session t steps → Adds sink disk (k, d, l) (k, d1, l1) [] version
-        → IsCrashSafe sink disk (k, d1, l1) (k', d', l') (kept_of steps) → IsSafeFrom source sink disk session (i, k, d, l) (i', k', d') version t
+        → IsCrashSafe sink disk (k, d1, l1) (k', d', l') (kept_of steps) → IsSafeFrom source sink disk session (i, k, d, l) (devices_of i' k' d') version t
     safe_behind consumes parts goes chain a s = record {
       bytes = bytes;
       consumes = consumes;
@@ -152,7 +154,7 @@ module _ {S K D A : Type 0} (source : OfSource.Ghosts S) (sink : OfSink.Ghosts K
   -- the journal came to its end, and then lines were given that do not begin with `ok `, or a prefix of them
   pub safe_end : (i i' : S) (k k1 k' : K) (d d' : D) (l l' : LogState) (version : Payloads) (t t' : session.State) (p : StoreProgress) (more : List ℕ)
       → EndsStored source sink disk session (i, k, d, l) (i', k1, d', l') version t t' p → ok_lines more ≡ 0 → Gave sink k1 k' more
-      → IsSafeFrom source sink disk session (i, k, d, l) (i', k', d') version t
+      → IsSafeFrom source sink disk session (i, k, d, l) (devices_of i' k' d') version t
   safe_end i i' k k1 k' d d' l l' version t t' p more e none given =
       let j = e.goes_on in
       let a = j.answers in
@@ -166,7 +168,7 @@ module _ {S K D A : Type 0} (source : OfSource.Ghosts S) (sink : OfSink.Ghosts K
     among_whole lines rest parts = whole ∙ ap (λ (x : List Line). x ++ more) parts ∙ append_assoc lines rest more
 
     safe_among : (s : StopsAmong sink disk session (k, d1, l1) (k1, d', l') t 0 ended stop) → IsCrashSafe sink disk (k, d1, l1) (k', d', l') (kept_of s.done ++ kept_of s.begun)
-        → IsSafeFrom source sink disk session (i, k, d, l) (i', k', d') version t
+        → IsSafeFrom source sink disk session (i, k, d, l) (devices_of i' k' d') version t
     safe_among s safe =
         safe_behind i i' k k' d d1 d' l l1 l' version t s.t' s.n' bytes s.lines (s.rest ++ more) (s.done ++ s.begun) consumes (among_whole s.lines s.rest s.parts) s.goes s.chain a
         (subst (λ (x : Payloads). IsCrashSafe sink disk (k, d1, l1) (k', d', l') x) (sym (kept_append s.done s.begun)) safe)
@@ -225,7 +227,7 @@ module _ {S K D A : Type 0} (source : OfSource.Ghosts S) (sink : OfSink.Ghosts K
     unread : (given : List ℕ) → Took source i i' [] → Gave sink k k' given
         → ((base : Payloads) → StandsOn disk d l base → (c : List ℕ) → disk.images d' c → (ok_lines given ≡ 0) × HoldsPayloads base c ⊎ IsAcknowledged (base ++ version) [] given c)
         → ((base : Payloads) → StandsOn disk d l base → LeavesOnly disk d d' (HoldsFirst base (version ++ [])))
-        → IsSafeFrom source sink disk session (i, k, d, l) (i', k', d') version t
+        → IsSafeFrom source sink disk session (i, k, d, l) (devices_of i' k' d') version t
     unread given consumes appends now moments = record {
       bytes = [];
       consumes = consumes;
@@ -249,13 +251,13 @@ module _ {S K D A : Type 0} (source : OfSource.Ghosts S) (sink : OfSink.Ghosts K
 
     -- the version record was not stored, and these bytes were given
     unstored : (given : List ℕ) → ok_lines given ≡ 0 → Took source i i' [] → Gave sink k k' given → ((base : Payloads) → StandsOn disk d l base → StandsOn disk d' l' (base ++ []))
-        → ((base : Payloads) → StandsOn disk d l base → LeavesOnly disk d d' (HoldsFirst base [])) → IsSafeFrom source sink disk session (i, k, d, l) (i', k', d') version t
+        → ((base : Payloads) → StandsOn disk d l base → LeavesOnly disk d d' (HoldsFirst base [])) → IsSafeFrom source sink disk session (i, k, d, l) (devices_of i' k' d') version t
     unstored given none consumes appends stored moments =
         unread given consumes appends (λ base s c is. before_it base version given c none (images_hold l' d' (base ++ []) c (stored base s) is)) (λ base s. none_left base (moments base s))
 
     pub safe_unstored : (stop : Stop) (more : List ℕ) → ok_lines more ≡ 0 → IsOwnStop stop → IsUnasked source i i'
         → Stops sink disk (k, d, l) (k1, d', l') stop [] [] [] version → Gave sink k1 k' more
-        → IsSafeFrom source sink disk session (i, k, d, l) (i', k', d') version t
+        → IsSafeFrom source sink disk session (i, k, d, l) (devices_of i' k' d') version t
     safe_unstored SourceFault more none own unasked s h = absurd own
     safe_unstored TooLong more none own unasked s h = absurd own
     safe_unstored SinkFault more none own unasked s h = absurd (omega (arith, s.given.1.some, ap length s.given.1.parts, length-append s.given.0 s.given.1.rest))
@@ -283,7 +285,7 @@ module _ {S K D A : Type 0} (source : OfSource.Ghosts S) (sink : OfSink.Ghosts K
     safe_journal : (d1 : D) (l1 : LogState) (stop : Stop) → Adds sink disk (k, d, l) (k, d1, l1) [] version
         → StopsJournal source sink disk session (i, k, d1, l1) (i', k1, d', l') t 0 stop
         → ((ended : List Line) (s : StopsAmong sink disk session (k, d1, l1) (k1, d', l') t 0 ended stop) → IsCrashSafe sink disk (k, d1, l1) (k', d', l') (kept_of s.done ++ kept_of s.begun))
-        → IsSafeFrom source sink disk session (i, k, d, l) (i', k', d') version t
+        → IsSafeFrom source sink disk session (i, k, d, l) (devices_of i' k' d') version t
     safe_journal d1 l1 stop a (inl s) f =
         safe_among i i' k k1 k' d d1 d' l l1 l' version t stop s.bytes (ended_lines s.bytes) (option_to_list (last_line (fed nothing_fed s.bytes).begun)) s.consumes (sym (all_lines_given s.bytes)) a s.among
         (f (ended_lines s.bytes) s.among)
@@ -293,28 +295,28 @@ module _ {S K D A : Type 0} (source : OfSource.Ghosts S) (sink : OfSink.Ghosts K
 
     -- what is said at the stop was given
     pub safe_stored : (stop : Stop) → StopsStored source sink disk session (i, k, d, l) (i', k1, d', l') version t stop → Gave sink k1 k' (said_at stop)
-        → IsSafeFrom source sink disk session (i, k, d, l) (i', k', d') version t
+        → IsSafeFrom source sink disk session (i, k, d, l) (devices_of i' k' d') version t
     safe_stored stop (inl s) h = safe_unstored i i' k k1 k' d d' l l' version t stop (said_at stop) (none_said stop) s.0 s.1 s.2 h
     safe_stored stop (inr s) h = safe_journal s.d1 s.l1 stop s.adds s.goes_on (λ ended a. safe_said stop k k1 k' s.d1 d' s.l1 l' t 0 ended a h)
 
     -- a prefix of the line of a full log was given
     pub safe_stored_front : StopsStored source sink disk session (i, k, d, l) (i', k1, d', l') version t LogFull → GaveFront sink k1 k' log_full_line
-        → IsSafeFrom source sink disk session (i, k, d, l) (i', k', d') version t
+        → IsSafeFrom source sink disk session (i, k, d, l) (devices_of i' k' d') version t
     safe_stored_front (inl s) h = safe_unstored i i' k k1 k' d d' l l' version t LogFull (take h.0 log_full_line) (none_of_front log_full_line h.0 log_full_other h.1) s.0 s.1 s.2 h.2
     safe_stored_front (inr s) h = safe_journal s.d1 s.l1 LogFull s.adds s.goes_on (λ ended a. safe_front k k1 k' s.d1 d' s.l1 l' t 0 ended a h)
 
     pub safe_at_stop : (stop : Stop) (status : Status) → StopsStored source sink disk session (i, k, d, l) (i', k1, d', l') version t stop
         → SaysStop sink k1 k' stop status
-        → IsSafeFrom source sink disk session (i, k, d, l) (i', k', d') version t
+        → IsSafeFrom source sink disk session (i, k, d, l) (devices_of i' k' d') version t
     safe_at_stop stop status s (inl h) = safe_stored stop s h.1
     safe_at_stop stop status s (inr h) =
         safe_stored_front (subst (λ (x : Stop). StopsStored source sink disk session (i, k, d, l) (i', k1, d', l') version t x) h.0 s) h.2
 
     pub safe_at_end : (t' : session.State) (p : StoreProgress) (status : Status) → EndsStored source sink disk session (i, k, d, l) (i', k1, d', l') version t t' p
-        → (status ≡ end_of p.refused) × AreOtherLines (session.state_text t') × Gave sink k1 k' (session.state_text t')
+        → (status ≡ status_at_end p.refused) × AreOtherLines (session.state_text t') × Gave sink k1 k' (session.state_text t')
         ⊎ (status ≡ ending.SinkFault) × AreOtherLines (session.state_text t') × GaveFront sink k1 k' (session.state_text t')
         ⊎ (status ≡ ending.NoMemory) × Gave sink k1 k' []
-        → IsSafeFrom source sink disk session (i, k, d, l) (i', k', d') version t
+        → IsSafeFrom source sink disk session (i, k, d, l) (devices_of i' k' d') version t
     safe_at_end t' p status e (inl h) = safe_end i i' k k1 k' d d' l l' version t t' p (session.state_text t') e (none_of (session.state_text t') h.1) h.2
     safe_at_end t' p status e (inr (inl h)) =
         safe_end i i' k k1 k' d d' l l' version t t' p (take h.2.0 (session.state_text t')) e (none_of_front (session.state_text t') h.2.0 h.1 h.2.1) h.2.2

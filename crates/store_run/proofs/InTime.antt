@@ -13,7 +13,7 @@ use Rattle.edit_journal.specs.Pieces.{FedLines, nothing_fed, fed, lines_of, last
 use Rattle.edit_journal.specs.declared.line.Line.{Line}
 use Rattle.edit_journal.proofs.Feeding.{lines_at, joins, in_front, all_lines_given}
 use Rattle.script_input.specs.Taking.{GaveFew}
-use Rattle.store_run.specs.Answered.{ended_lines}
+use Rattle.script_input.specs.Coming.{ended_lines}
 use Rattle.store_run.specs.StoreRuns.{run, GoesOver, AreAnsweredIn, text_of}
 use Rattle.store_run.specs.declared.session.StoredAnswer.{StoredAnswer}
 use Rattle.store_run.specs.declared.session.StoredSession as OfSession

@@ -12,7 +12,9 @@ use Rattle.edit_journal.specs.declared.line.Line.{Line}
 use Rattle.gate_log.specs.LogOnDisk.{LogState}
 use Rattle.script_input.specs.Taking.{GaveFew}
 use Rattle.script_input.specs.declared.limits.TheConstants.{PIECE_BYTES}
-use Rattle.store_run.specs.Answered.{ended_lines, AllAt, AnswersFirst}
+use Rattle.store_run.specs.Devices.{devices_of}
+use Rattle.store_run.specs.Answered.{AllAt, AnswersFirst}
+use Rattle.script_input.specs.Coming.{ended_lines}
 use Rattle.store_run.specs.ApplyCall.{EndsCall}
 use Rattle.store_run.specs.Effects.{GivesAt}
 use Rattle.store_run.specs.ApplyEnds.{log_full_line, said_at, status_of, SaysStop, Exits}
@@ -155,6 +157,6 @@ module _ {S K D A : Type 0} (source : OfSource.Ghosts S) (sink : OfSink.Ghosts K
 
   -- the call from the opening on
   pub call_in_time : (i i' : S) (k k' : K) (d d' : D) (before : List (List ℕ)) (t : session.State) (version : Option (List ℕ)) (status : Status) → GaveFew source i i' PIECE_BYTES
-      → EndsCall source sink disk session (i, k, d) (i', k', d') before t version status → AnswersInTime source sink session (i, k) (i', k') t status
+      → EndsCall source sink disk session (devices_of i k d) (devices_of i' k' d') before t version status → AnswersInTime source sink session (i, k) (i', k') t status
   call_in_time i i' k k' d d' before t version status few (inl o) = exits_in_time i i' k k' o.d1 d' o.log o.log' (option_to_list version) t o.t' status few o.exits
   call_in_time i i' k k' d d' before t version status few (inr u) = unasked_in_time i i' k k' t status few [] u.1 u.2.0.1

@@ -8,7 +8,8 @@ use Rattle.edit_journal.specs.Pieces.{has_no_end}
 use Rattle.edit_journal.proofs.Feeding.{both_plain}
 use Rattle.script_input.proofs.Fronts.{cut_last}
 use Rattle.store_run.specs.Effects.{IsProperFront}
-use Rattle.store_run.specs.OkLines.{cut, begins_ok, is_ok_line, ok_lines, IsLine, IsOtherLine, AllOther}
+use Rattle.store_run.specs.OkLines.{begins_ok, is_ok_line, ok_lines, IsLine, IsOtherLine, AllOther}
+use Rattle.script_input.specs.Lines.{cut}
 use Rattle.store_run.specs.StoreRuns.{AreAnswers, text_of, kept_of}
 use Rattle.store_run.specs.declared.session.StoredAnswer.{StoredAnswer}
 use Rattle.texts.proofs.Tests.{and_false}

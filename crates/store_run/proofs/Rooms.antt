@@ -1,5 +1,5 @@
 -- Why the commands over a store ended so.
-use Rattle.command_ends.specs.Statuses.{IsFinished, end_of}
+use Rattle.command_ends.specs.Statuses.{IsFinished, status_at_end}
 use Rattle.std.proofs.Common.{◌≡◌, ◌⊎◌, inl, inr, ℕ, ◌+◌, ◌<◌, List, [], ◌∷◌, ◌++◌, length, Bool, true, false, Option, Some, None, refl, sym, ap, subst, ◌∙◌, append_assoc, append-nil, arith}
 use Rattle.std.specs.Prelude.{option_to_list, IfSome, IsNone}
 use Rattle.lens_io.specs.Calls.{Took}
@@ -11,7 +11,9 @@ use Rattle.edit_journal.specs.declared.line.Line.{Line}
 use Rattle.edit_journal.proofs.Feeding.{all_lines_given}
 use Rattle.gate_log.specs.LogBytes.{payloads, records_length, closed_gate}
 use Rattle.gate_log.specs.LogOnDisk.{LogState, Stands}
-use Rattle.store_run.specs.Answered.{ended_lines, StopsAmong}
+use Rattle.store_run.specs.Devices.{devices_of}
+use Rattle.store_run.specs.Answered.{StopsAmong}
+use Rattle.script_input.specs.Coming.{ended_lines}
 use Rattle.store_run.specs.ApplyCall.{EndsCall}
 use Rattle.store_run.specs.CountLines.{packed_line}
 use Rattle.store_run.specs.Effects.{IsOver, IsFullAt, Stops}
@@ -152,7 +154,7 @@ module _ {S K D A : Type 0} (source : OfSource.Ghosts S) (sink : OfSink.Ghosts K
     at_stop TooLong (inl s) = absurd s.0
     at_stop TooLong (inr s) = elim s.goes_on [ inl j ↦ record { bytes = j.bytes; consumes = j.consumes; over = omega (arith, j.all.1, j.at_most) } | inr j ↦ absurd j.own ]
 
-  at_end : (b : Bool) (o : Option ℕ) → TakesWithin source i i' → IsCauseInRoom source session i i' o before t version (end_of b)
+  at_end : (b : Bool) (o : Option ℕ) → TakesWithin source i i' → IsCauseInRoom source session i i' o before t version (status_at_end b)
   at_end true o h = h
   at_end false o h = h
 
@@ -162,7 +164,7 @@ module _ {S K D A : Type 0} (source : OfSource.Ghosts S) (sink : OfSink.Ghosts K
   at_exit : (k k' : K) (d d' : D) (l l' : LogState) (t' : session.State) (status : Status) → l.gate ≡ closed_gate before
       → Exits source sink disk session (i, k, d, l) (i', k', d', l') (option_to_list version) t t' status
       → IsCauseInRoom source session i i' (disk.room d) before t version status
-  at_exit k k' d d' l l' t' status g (inl c) = at_status status (end_of (any_refused c.steps)) (disk.room d) c.ended (at_end (any_refused c.steps) (disk.room d) (record { bytes = c.bytes; consumes = c.consumes; within = c.within }))
+  at_exit k k' d d' l l' t' status g (inl c) = at_status status (status_at_end (any_refused c.steps)) (disk.room d) c.ended (at_end (any_refused c.steps) (disk.room d) (record { bytes = c.bytes; consumes = c.consumes; within = c.within }))
   at_exit k k' d d' l l' t' status g (inr (inl e)) = elim e.short [
     | inl x ↦ at_status status ending.NoMemory (disk.room d) x.0 tt
     | inr x ↦ at_status status ending.SinkFault (disk.room d) x.0 tt
@@ -173,7 +175,7 @@ module _ {S K D A : Type 0} (source : OfSource.Ghosts S) (sink : OfSink.Ghosts K
   ]
 
   pub apply_cause : (k k' : K) (d d' : D) (bytes : List ℕ) (status : Status) → disk.content d ≡ Some bytes
-      → EndsCall source sink disk session (i, k, d) (i', k', d') before t version status
+      → EndsCall source sink disk session (devices_of i k d) (devices_of i' k' d') before t version status
       → IsCauseInRoom source session i i' (disk.room d) before t version status
   apply_cause k k' d d' bytes status told (inl o) =
       let g = gate_of (disk.content o.d1) (disk.images o.d1) o.log before bytes (o.opens.unwritten.same ∙ told) o.stands in

@@ -9,6 +9,7 @@ use Rattle.lens_io.specs.declared.disk.Disk as OfDisk
 use Rattle.edit_journal.specs.Pieces.{nothing_fed, fed}
 use Rattle.edit_journal.specs.declared.line.Line.{Line}
 use Rattle.lens_io.specs.declared.failed.TakeFault.{TakeFault}
+use Rattle.script_input.specs.Coming.{ended_lines}
 use Rattle.script_input.specs.Taking.{TakenInput, TakesMore}
 use Rattle.script_input.specs.declared.limits.TheConstants.{MOST_BYTES}
 use Rattle.store_run.specs.Effects.{Adds, Stops}
@@ -21,10 +22,6 @@ use Rattle.store_run.specs.declared.journal.StoreProgress.{StoreProgress}
 use Rattle.store_run.specs.declared.stop.Stop.{Stop}
 use Rattle.gate_log.specs.LogOnDisk.{LogState}
 use Rattle.store_run.specs.declared.stop.Stop.TheVariants.{SourceFault, TooLong}
-
--- the lines that an LF has ended in these bytes
-abbrev pub ended_lines : List ℕ → List Line
-ended_lines bytes = (fed nothing_fed bytes).ended
 
 module _ {K D A : Type 0} (sink : OfSink.Ghosts K) (disk : OfDisk.Ghosts D) (session : OfSession.Ghosts A)
     (old new : K × D × LogState) where

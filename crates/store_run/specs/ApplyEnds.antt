@@ -12,6 +12,7 @@ use Rattle.gate_log.specs.LogOnDisk.{LogState, HoldsPayloads}
 use Rattle.gate_log.specs.Steps.{KeepsBehind}
 use Rattle.lens_io.specs.Disks.{Steps}
 use Rattle.script_input.specs.declared.limits.TheConstants.{MOST_BYTES}
+use Rattle.store_run.specs.Devices.{Devices}
 use Rattle.store_run.specs.Crash.{IsAcknowledged}
 use Rattle.store_run.specs.Effects.{HoldsFirst, StandsOn, Adds, Stops}
 use Rattle.store_run.specs.JournalEnds.{EndsJournal, StopsJournal}
@@ -23,7 +24,7 @@ use Rattle.store_run.specs.Stopping.{IsOwnStop}
 use Rattle.store_run.specs.declared.session.StoredAnswer.{StoredAnswer}
 use Rattle.store_run.specs.declared.session.StoredSession as OfSession
 use Rattle.store_run.specs.declared.journal.StoreProgress.{StoreProgress}
-use Rattle.command_ends.specs.Statuses.{end_of}
+use Rattle.command_ends.specs.Statuses.{status_at_end}
 use Rattle.command_ends.specs.declared.status.Status.{Status}
 use Rattle.command_ends.specs.declared.status.Status.TheVariants as ending
 use Rattle.store_run.specs.declared.stop.Stop.{Stop}
@@ -98,7 +99,7 @@ module _ {S K D A : Type 0} (source : OfSource.Ghosts S) (sink : OfSink.Ghosts K
     pub stored : (base : List (List ℕ)) → StandsOn disk old.2 old.3 base
         → StandsOn disk new.2 new.3 ((base ++ version) ++ kept_of steps)
     pub behind : Steps (KeepsBehind (new.3.gate + 1)) (disk.content old.2) (disk.content new.2)
-    pub ended : status ≡ end_of (any_refused steps)
+    pub ended : status ≡ status_at_end (any_refused steps)
 
   -- The end of the journal was reached, and not all of the state lines were written: memory ran out before them, or
   -- the sink failed.
@@ -123,7 +124,7 @@ module _ {S K D A : Type 0} (source : OfSource.Ghosts S) (sink : OfSink.Ghosts K
       ⊎ StopsShort version t status
 
 module _ {S K D A : Type 0} (source : OfSource.Ghosts S) (sink : OfSink.Ghosts K) (disk : OfDisk.Ghosts D)
-    (session : OfSession.Ghosts A) (old : S × K × D × LogState) (new : S × K × D) where
+    (session : OfSession.Ghosts A) (old : S × K × D × LogState) (new : Devices S K D) where
   -- What a crash leaves. These bytes were taken, and these were written. Of the lines taken the first ones were
   -- handled, by these steps of the run. An image that a crash now may leave holds the payloads of the changes whose
   -- `ok` lines were written, and at most one more; or, if no `ok` line was written, the payloads from before. An
@@ -131,7 +132,7 @@ module _ {S K D A : Type 0} (source : OfSource.Ghosts S) (sink : OfSink.Ghosts K
   -- record, and then those of the changes.
   pub record IsSafeFrom (version : List (List ℕ)) (t : session.State) : Type 0 where
     pub bytes : List ℕ
-    pub consumes : Took source old.0 new.0 bytes
+    pub consumes : Took source old.0 new.source bytes
     pub lines : List Line
     pub rest : List Line
     pub parts : lines_of bytes ≡ lines ++ rest
@@ -139,8 +140,8 @@ module _ {S K D A : Type 0} (source : OfSource.Ghosts S) (sink : OfSink.Ghosts K
     pub is_run : run session t 0 lines ≡ Some steps
     pub chain : AreSteps session t steps
     pub given : List ℕ
-    pub appends : Gave sink old.1 new.1 given
-    pub now : (base : List (List ℕ)) → StandsOn disk old.2 old.3 base → (c : List ℕ) → disk.images new.2 c
+    pub appends : Gave sink old.1 new.sink given
+    pub now : (base : List (List ℕ)) → StandsOn disk old.2 old.3 base → (c : List ℕ) → disk.images new.disk c
         → (ok_lines given ≡ 0) × HoldsPayloads base c ⊎ IsAcknowledged (base ++ version) (kept_of steps) given c
     pub moments : (base : List (List ℕ)) → StandsOn disk old.2 old.3 base
-        → LeavesOnly disk old.2 new.2 (HoldsFirst base (version ++ kept_of steps))
+        → LeavesOnly disk old.2 new.disk (HoldsFirst base (version ++ kept_of steps))

@@ -5,7 +5,8 @@ use Rattle.lens_io.specs.declared.source.Source as OfSource
 use Rattle.lens_io.specs.declared.sink.Sink as OfSink
 use Rattle.script_input.specs.Taking.{GaveFew}
 use Rattle.script_input.specs.declared.limits.TheConstants.{PIECE_BYTES}
-use Rattle.store_run.specs.Answered.{ended_lines, AnswersFirst}
+use Rattle.store_run.specs.Answered.{AnswersFirst}
+use Rattle.script_input.specs.Coming.{ended_lines}
 use Rattle.store_run.specs.StoreRuns.{AreAnsweredIn}
 use Rattle.store_run.specs.declared.session.StoredSession as OfSession
 use Rattle.command_ends.specs.declared.status.Status.{Status}

@@ -6,7 +6,8 @@ use Rattle.lens_io.specs.declared.sink.Sink as OfSink
 use Rattle.lens_io.specs.declared.disk.Disk as OfDisk
 use Rattle.edit_journal.specs.Pieces.{lines_of}
 use Rattle.script_input.specs.declared.limits.TheConstants.{MOST_BYTES}
-use Rattle.store_run.specs.Answered.{ended_lines, Answers, StopsAmong, StopsPieces}
+use Rattle.store_run.specs.Answered.{Answers, StopsAmong, StopsPieces}
+use Rattle.script_input.specs.Coming.{ended_lines}
 use Rattle.store_run.specs.StoreRuns.{AreAnsweredIn, text_of}
 use Rattle.store_run.specs.Stopping.{IsOwnStop}
 use Rattle.store_run.specs.declared.session.StoredSession as OfSession

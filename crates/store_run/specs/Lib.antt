@@ -4,7 +4,9 @@ pub mod ApplyCauses
 pub mod ApplyEnds
 pub mod CountLines
 pub mod Crash
+pub mod Devices
 pub mod Effects
+pub mod FaultCauses
 pub mod InTime
 pub mod JournalEnds
 pub mod MoreCall

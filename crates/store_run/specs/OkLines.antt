@@ -3,13 +3,8 @@ use Rattle.std.specs.Prelude.{◌≡◌, ℕ, ◌==◌, List, [], ◌∷◌, ◌
 use Rattle.std.specs.Prelude.{length, take, if◌then◌else◌, is_some}
 use Rattle.std.specs.List.{onto_first, concat}
 use Rattle.edit_journal.specs.Pieces.{has_no_end}
+use Rattle.script_input.specs.Lines.{cut}
 use Rattle.store_run.specs.declared.session.StoredAnswer.{StoredAnswer}
-
--- The bytes cut behind each LF, which stays at the end of its line. What follows the last LF is one more line if it
--- is not empty.
-abbrev pub cut : List ℕ → List (List ℕ)
-cut [] = []
-cut (byte ∷ bytes) = if byte == 10 then (byte ∷ []) ∷ cut bytes else onto_first byte (cut bytes)
 
 -- the line begins with `ok `
 abbrev pub begins_ok : List ℕ → Bool

@@ -1,9 +1,10 @@
 //! The command `apply`, from its first call of the disk on.
-ghost use Rattle.command_ends.specs.Statuses.{IsAmong, IsFinished, apply_statuses};
+ghost use Rattle.command_ends.specs.Statuses.{IsStatusAmong, IsFinished, apply_statuses};
 ghost use Rattle.std.specs.Prelude.{◌≡◌, ◌⊎◌};
 ghost use Rattle.lens_io.specs.Calls.{IsUnasked, SourceFailed, SinkFailed, DiskFailed};
 ghost use Rattle.script_input.specs.Taking.{GaveFew};
 ghost use Rattle.script_input.specs.declared.limits.TheConstants.{PIECE_BYTES};
+ghost use Rattle.store_run.specs.Devices.{devices_of};
 ghost use Rattle.store_run.specs.ApplyCall.{ContinuesCall, IsSafeCall, IsUnopened, EndsCall};
 ghost use Rattle.store_run.specs.InTime.{AnswersInTime};
 ghost use Rattle.store_run.specs.Refusals.{IsUnwritten, EndsRefused};
@@ -45,17 +46,17 @@ pub fn apply<S: Source, A: StoredSession + Drop, K: Sink, D: Disk>(
 ) -> Status
     ensures continues { (store : Store D.Disk A.StoredSession disk.old) → IsFinished result
         → ContinuesCall S.Source K.Sink D.Disk A.StoredSession
-        (source.old, sink.old) (source.new, sink.new, disk.new)
+        (source.old, sink.old) (devices_of source.new sink.new disk.new)
         store.payloads store.state store.version result }
     ensures safe { (store : Store D.Disk A.StoredSession disk.old)
         → (result ≡ Status.DiskFault) × IsUnopened S.Source K.Sink D.Disk
-        (source.old, sink.old, disk.old) (source.new, sink.new, disk.new)
+        (devices_of source.old sink.old disk.old) (devices_of source.new sink.new disk.new)
         ⊎ IsSafeCall S.Source K.Sink D.Disk A.StoredSession
-        (source.old, sink.old, disk.old) (source.new, sink.new, disk.new)
+        (devices_of source.old sink.old disk.old) (devices_of source.new sink.new disk.new)
         (D.images disk.old) store.payloads store.state store.version }
     ensures exits { (store : Store D.Disk A.StoredSession disk.old)
         → EndsCall S.Source K.Sink D.Disk A.StoredSession
-        (source.old, sink.old, disk.old) (source.new, sink.new, disk.new)
+        (devices_of source.old sink.old disk.old) (devices_of source.new sink.new disk.new)
         store.payloads store.state store.version result }
     ensures in_time { (store : Store D.Disk A.StoredSession disk.old)
         → AnswersInTime S.Source K.Sink A.StoredSession
@@ -76,7 +77,7 @@ pub fn apply<S: Source, A: StoredSession + Drop, K: Sink, D: Disk>(
     ensures refused { (other : RefusedStore D.Disk A.StoredSession disk.old)
         → IsUnwritten D.Disk disk.old disk.new × IsUnasked S.Source source.old source.new
         × EndsRefused K.Sink D.Disk (sink.old, disk.old) (sink.new, disk.new) other.reason result }
-    ensures statuses { IsAmong apply_statuses result }
+    ensures statuses { IsStatusAmong apply_statuses result }
     ensures source_fault { result ≡ Status.SourceFault
         → SourceFailed S.Source source.old source.new }
     ensures sink_fault { result ≡ Status.SinkFault → SinkFailed K.Sink sink.old sink.new }

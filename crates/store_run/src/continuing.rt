@@ -1,11 +1,12 @@
 //! Going on with a session that was opened, by a journal: what comes before the lines and behind them.
-ghost use Rattle.command_ends.specs.Statuses.{IsAmong, apply_statuses, end_of};
+ghost use Rattle.command_ends.specs.Statuses.{IsStatusAmong, apply_statuses, status_at_end};
 ghost use Rattle.std.specs.Prelude.{◌≡◌, ◌⊎◌, ◌+◌, ◌^◌, ◌<◌, ◌≤◌, [], false, List, ℕ, IfOk, IfErr, IsErrOf};
 ghost use Rattle.std.specs.Prelude.{option_to_list};
 ghost use Rattle.lens_io.specs.Calls.{Gave, GaveFront, SourceFailed, SinkFailed, DiskFailed};
 ghost use Rattle.edit_journal.specs.Pieces.{last_line};
 ghost use Rattle.script_input.specs.Taking.{GaveFew};
 ghost use Rattle.script_input.specs.declared.limits.TheConstants.{PIECE_BYTES};
+ghost use Rattle.store_run.specs.Devices.{devices_of};
 ghost use Rattle.store_run.specs.Answered.{Answers, StopsAmong};
 ghost use Rattle.store_run.specs.ApplyCauses.{Counted, stop_in};
 ghost use Rattle.store_run.specs.Effects.{StandsOn};
@@ -157,12 +158,12 @@ pub fn continue_store<S: Source, A: StoredSession, K: Sink, D: Disk>(
         (option_to_list version.now) (A.state session.old)
         (A.state session.new) result }
     ensures safe { IsSafeFrom S.Source K.Sink D.Disk A.StoredSession
-        (source.old, sink.old, disk.old, log.old) (source.new, sink.new, disk.new)
+        (source.old, sink.old, disk.old, log.old) (devices_of source.new sink.new disk.new)
         (option_to_list version.now) (A.state session.old) }
     ensures in_time { AnswersInTime S.Source K.Sink A.StoredSession
         (source.old, sink.old) (source.new, sink.new) (A.state session.old) result }
     ensures few { GaveFew S.Source source.old source.new PIECE_BYTES }
-    ensures statuses { IsAmong apply_statuses result }
+    ensures statuses { IsStatusAmong apply_statuses result }
     ensures source_fault { result ≡ Status.SourceFault
         → SourceFailed S.Source source.old source.new }
     ensures sink_fault { result ≡ Status.SinkFault → SinkFailed K.Sink sink.old sink.new }
@@ -181,7 +182,7 @@ fn give_state<A: StoredSession, K: Sink>(
     progress: StoreProgress,
     sink: &mut K,
 ) -> Status
-    ensures gives { (result ≡ end_of progress.refused)
+    ensures gives { (result ≡ status_at_end progress.refused)
         × AreOtherLines (A.state_text (A.state session.now))
         × Gave K.Sink sink.old sink.new (A.state_text (A.state session.now))
         ⊎ (result ≡ Status.SinkFault)
@@ -189,7 +190,7 @@ fn give_state<A: StoredSession, K: Sink>(
         × GaveFront K.Sink sink.old sink.new (A.state_text (A.state session.now))
         ⊎ (result ≡ Status.NoMemory) × Gave K.Sink sink.old sink.new [] }
     ensures sink_fault { result ≡ Status.SinkFault → SinkFailed K.Sink sink.old sink.new }
-    ensures statuses { IsAmong apply_statuses result }
+    ensures statuses { IsStatusAmong apply_statuses result }
     ensures no_source { result ≡ Status.SourceFault → ⊥ }
     ensures no_disk { result ≡ Status.DiskFault → ⊥ }
 {

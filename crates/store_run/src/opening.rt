@@ -1,6 +1,6 @@
 //! Opening a store: its log, its payloads, and the session that they represent.
 ghost use Rattle.std.specs.Prelude.{◌≡◌, ◌⊎◌, ◌≤◌, List, ℕ, IfErr, IfOk, IsErrOf, IsNone, MatchResult, Some};
-ghost use Rattle.command_ends.specs.Statuses.{IsAmong, IsFinished, quiet_statuses};
+ghost use Rattle.command_ends.specs.Statuses.{IsStatusAmong, IsFinished, quiet_statuses};
 ghost use Rattle.lens_io.specs.Calls.{DiskFailed, SinkFailed};
 ghost use Rattle.gate_log.specs.LogOnDisk.{HoldsPayloads};
 ghost use Rattle.store_run.specs.Effects.{StandsOn};
@@ -157,7 +157,7 @@ pub fn open_store<A: StoredSession + Drop, D: Disk>(
 /// the disk, and running out of memory, write no line.
 pub fn refuse_store<K: Sink>(alloc: Global, fault: OpenFault, sink: &mut K) -> Status
     ensures ends { EndsUnopened K.Sink sink.old sink.new fault result }
-    ensures statuses { IsAmong quiet_statuses result }
+    ensures statuses { IsStatusAmong quiet_statuses result }
     ensures unfinished { IsFinished result → ⊥ }
     ensures sink_fault { result ≡ Status.SinkFault → SinkFailed K.Sink sink.old sink.new }
     ensures disk_fault { result ≡ Status.DiskFault → fault ≡ OpenFault.DiskFault }

@@ -1,5 +1,5 @@
 //! The command `pack`, from its first call of the disk on.
-ghost use Rattle.command_ends.specs.Statuses.{IsAmong, IsFinished, quiet_statuses};
+ghost use Rattle.command_ends.specs.Statuses.{IsStatusAmong, IsFinished, quiet_statuses};
 ghost use Rattle.std.specs.Prelude.{◌≡◌, ◌⊎◌, ◌∷◌, ◌++◌, [], List, ℕ, Ok, Some, OnOk, IfOk, IfErr, option_to_list};
 ghost use Rattle.std.specs.declared.option.Option.{Option};
 ghost use Rattle.lens_io.specs.Calls.{SinkFailed, DiskFailed};
@@ -68,7 +68,7 @@ pub fn pack<A: StoredSession + Drop, K: Sink, D: Disk>(
     ensures refused { (other : RefusedStore D.Disk A.StoredSession disk.old)
         → IsUnwritten D.Disk disk.old disk.new
         × EndsRefused K.Sink D.Disk (sink.old, disk.old) (sink.new, disk.new) other.reason result }
-    ensures statuses { IsAmong quiet_statuses result }
+    ensures statuses { IsStatusAmong quiet_statuses result }
     ensures sink_fault { result ≡ Status.SinkFault → SinkFailed K.Sink sink.old sink.new }
     ensures disk_fault { result ≡ Status.DiskFault → DiskFailed D.Disk disk.old disk.new }
 {
@@ -118,7 +118,7 @@ fn pack_session<A: StoredSession, K: Sink, D: Disk>(
         → count ≡ A.count_of before
         → EndsPack K.Sink D.Disk A.StoredSession (sink.old, disk.old) (sink.new, disk.new)
         before (A.state session.now) version.now result }
-    ensures statuses { IsAmong quiet_statuses result }
+    ensures statuses { IsStatusAmong quiet_statuses result }
     ensures sink_fault { result ≡ Status.SinkFault → SinkFailed K.Sink sink.old sink.new }
     ensures disk_fault { result ≡ Status.DiskFault → DiskFailed D.Disk disk.old disk.new }
 {

@@ -1,6 +1,6 @@
 //! The refusals of a store.
 ghost use Rattle.std.specs.Prelude.{◌≡◌, ◌⊎◌, IfOk};
-ghost use Rattle.command_ends.specs.Statuses.{IsAmong, apply_statuses, quiet_statuses};
+ghost use Rattle.command_ends.specs.Statuses.{IsStatusAmong, apply_statuses, quiet_statuses};
 ghost use Rattle.lens_io.specs.Calls.{Gave, GaveFront, SinkFailed};
 ghost use Rattle.store_run.specs.ApplyEnds.{SaysStop};
 ghost use Rattle.store_run.specs.Stopping.{IsOwnStop};
@@ -33,7 +33,7 @@ pub enum StoreRefusal {
 /// allocates.
 pub fn refuse<K: Sink>(alloc: Global, refusal: StoreRefusal, sink: &mut K) -> Status
     ensures refuses { Refuses K.Sink sink.old sink.new refusal result }
-    ensures statuses { IsAmong quiet_statuses result }
+    ensures statuses { IsStatusAmong quiet_statuses result }
     ensures sink_fault { result ≡ Status.SinkFault → SinkFailed K.Sink sink.old sink.new }
 {
     match refusal {
@@ -66,7 +66,7 @@ fn not_consistent_line(alloc: Global, number: u64) -> Result<Bytes, AllocError>
 fn give_made<K: Sink>(sink: &mut K, line: Result<Bytes, AllocError>) -> Status
     ensures refuses { (refusal : StoreRefusal) → IfOk line (λ text. text ≡ refusal_line refusal)
         → Refuses K.Sink sink.old sink.new refusal result }
-    ensures statuses { IsAmong quiet_statuses result }
+    ensures statuses { IsStatusAmong quiet_statuses result }
     ensures sink_fault { result ≡ Status.SinkFault → SinkFailed K.Sink sink.old sink.new }
 {
     match line {
@@ -79,7 +79,7 @@ fn give_made<K: Sink>(sink: &mut K, line: Result<Bytes, AllocError>) -> Status
 fn give_refusal<K: Sink>(sink: &mut K, line: &[u8]) -> Status
     ensures gives { (result ≡ Status.StoreRefused) × Gave K.Sink sink.old sink.new line.now
         ⊎ (result ≡ Status.SinkFault) × GaveFront K.Sink sink.old sink.new line.now }
-    ensures statuses { IsAmong quiet_statuses result }
+    ensures statuses { IsStatusAmong quiet_statuses result }
     ensures sink_fault { result ≡ Status.SinkFault → SinkFailed K.Sink sink.old sink.new }
 {
     match give_all(sink, line) {
@@ -91,8 +91,8 @@ fn give_refusal<K: Sink>(sink: &mut K, line: &[u8]) -> Status
 /// Ends a command that was stopped. If the log is full, the line that says so is written.
 pub fn give_stop<K: Sink>(stop: Stop, sink: &mut K) -> Status
     ensures gives { SaysStop K.Sink sink.old sink.new stop result }
-    ensures statuses { IsAmong apply_statuses result }
-    ensures own { IsOwnStop stop → IsAmong quiet_statuses result }
+    ensures statuses { IsStatusAmong apply_statuses result }
+    ensures own { IsOwnStop stop → IsStatusAmong quiet_statuses result }
     ensures sink_fault { result ≡ Status.SinkFault
         → (stop ≡ Stop.SinkFault) × (sink.new ≡ sink.old)
         ⊎ SinkFailed K.Sink sink.old sink.new }

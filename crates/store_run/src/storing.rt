@@ -1,6 +1,6 @@
 //! Storing the last records of a command, and then writing its lines.
 ghost use Rattle.std.specs.Prelude.{◌≡◌, List, ℕ, option_to_list};
-ghost use Rattle.command_ends.specs.Statuses.{IsAmong, quiet_statuses};
+ghost use Rattle.command_ends.specs.Statuses.{IsStatusAmong, quiet_statuses};
 ghost use Rattle.lens_io.specs.Calls.{SinkFailed, DiskFailed};
 ghost use Rattle.store_run.specs.Effects.{StandsOn};
 ghost use Rattle.store_run.specs.StoreEnds.{StoreEnds};
@@ -39,7 +39,7 @@ pub fn store_last<K: Sink, D: Disk>(
     requires stands { (base : List (List ℕ)) × StandsOn D.Disk disk.old log.old base }
     ensures ends { StoreEnds K.Sink D.Disk (sink.old, disk.old, log.old) (sink.new, disk.new, log.new)
         more.now.lines (option_to_list version.now) more.now.payload result }
-    ensures statuses { IsAmong quiet_statuses result }
+    ensures statuses { IsStatusAmong quiet_statuses result }
     ensures sink_fault { result ≡ Status.SinkFault → SinkFailed K.Sink sink.old sink.new }
     ensures disk_fault { result ≡ Status.DiskFault → DiskFailed D.Disk disk.old disk.new }
 {

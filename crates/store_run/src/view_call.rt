@@ -1,5 +1,5 @@
 //! The commands `show` and `verify`, which only read a store.
-ghost use Rattle.command_ends.specs.Statuses.{IsAmong, quiet_statuses};
+ghost use Rattle.command_ends.specs.Statuses.{IsStatusAmong, quiet_statuses};
 ghost use Rattle.std.specs.Prelude.{◌≡◌, ◌⊎◌, IfOk, IsNone};
 ghost use Rattle.lens_io.specs.Calls.{SinkFailed, DiskFailed};
 ghost use Rattle.lens_io.specs.DiskRuns.{LeavesOnly};
@@ -51,7 +51,7 @@ pub fn show<A: StoredSession + Drop, K: Sink, D: Disk>(
         → (SinkFailed K.Sink sink.old sink.new → ⊥)
         → (DiskFailed D.Disk disk.old disk.new → ⊥)
         → (result ≡ Status.Done) ⊎ (result ≡ Status.NoMemory) }
-    ensures statuses { IsAmong quiet_statuses result }
+    ensures statuses { IsStatusAmong quiet_statuses result }
     ensures sink_fault { result ≡ Status.SinkFault → SinkFailed K.Sink sink.old sink.new }
     ensures disk_fault { result ≡ Status.DiskFault → DiskFailed D.Disk disk.old disk.new }
     ensures sure { result ≡ Status.DiskFault → IsNone (D.room disk.old) }
@@ -86,7 +86,7 @@ pub fn verify<A: StoredSession + Drop, K: Sink, D: Disk>(
         → (SinkFailed K.Sink sink.old sink.new → ⊥)
         → (DiskFailed D.Disk disk.old disk.new → ⊥)
         → (result ≡ Status.Done) ⊎ (result ≡ Status.NoMemory) }
-    ensures statuses { IsAmong quiet_statuses result }
+    ensures statuses { IsStatusAmong quiet_statuses result }
     ensures sink_fault { result ≡ Status.SinkFault → SinkFailed K.Sink sink.old sink.new }
     ensures disk_fault { result ≡ Status.DiskFault → DiskFailed D.Disk disk.old disk.new }
     ensures sure { result ≡ Status.DiskFault → IsNone (D.room disk.old) }
@@ -109,7 +109,7 @@ fn view_store<A: StoredSession + Drop, K: Sink, D: Disk>(
         other.reason result }
     ensures unwritten { IsUnwritten D.Disk disk.old disk.new }
     ensures moments { LeavesOnly D.Disk disk.old disk.new (D.images disk.old) }
-    ensures statuses { IsAmong quiet_statuses result }
+    ensures statuses { IsStatusAmong quiet_statuses result }
     ensures sink_fault { result ≡ Status.SinkFault → SinkFailed K.Sink sink.old sink.new }
     ensures disk_fault { result ≡ Status.DiskFault → DiskFailed D.Disk disk.old disk.new }
     ensures sure { result ≡ Status.DiskFault → IsNone (D.room disk.old) }
@@ -130,7 +130,7 @@ fn give_view<A: StoredSession, K: Sink>(
 ) -> Status
     ensures views { Views K.Sink sink.old sink.new
         (view_text A.StoredSession view (A.state session.now) count) result }
-    ensures statuses { IsAmong quiet_statuses result }
+    ensures statuses { IsStatusAmong quiet_statuses result }
     ensures sink_fault { result ≡ Status.SinkFault → SinkFailed K.Sink sink.old sink.new }
     ensures no_disk { result ≡ Status.DiskFault → ⊥ }
 {

@@ -11,7 +11,7 @@ use Rattle.store_run.specs.declared.session.ReopenFault.{ReopenFault}
 use Rattle.store_session.specs.ReopenOutcomes.{IsReopenFault as IsRecordFault}
 use Rattle.store_session.specs.Stands.{from_opening, stands}
 use Rattle.store_session.specs.Standings.{standing}
-use Rattle.store_session.specs.StoredStates.{StoredState, state_with, version_for, fault_of, opened_as, stands_for, counted, count_of}
+use Rattle.store_session.specs.StoredStates.{StoredState, state_with, version_for, fault_of, opened_as, stands_for, counted, changes_counted}
 
 no_lens : (ps : List (List ℕ)) → stored_lens ps ≡ None → stands ps ≡ Err (of_records.BadRecord 1)
 no_lens [] h = refl
@@ -38,5 +38,5 @@ pub opened_stands : (ps : List (List ℕ)) (l : FormTree) (t : TripleTree) (coun
 opened_stands ps l t count number version h e =
     ap opened_as h ∙ ap (λ (v : Option (List ℕ)). opened_to l t v) (sym e)
 
-pub opened_counts : (ps : List (List ℕ)) (l : FormTree) (t : TripleTree) (count number : ℕ) → stands ps ≡ Ok (standing l t count number) → count ≡ count_of ps
+pub opened_counts : (ps : List (List ℕ)) (l : FormTree) (t : TripleTree) (count number : ℕ) → stands ps ≡ Ok (standing l t count number) → count ≡ changes_counted ps
 opened_counts ps l t count number h = sym (ap counted h)

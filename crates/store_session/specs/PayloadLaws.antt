@@ -17,7 +17,7 @@ use Rattle.store_session.specs.Written.{the_change, the_snapshot, HasRecord}
 use Rattle.store_session.specs.Appending.{stands_append}
 use Rattle.store_session.specs.WrittenStands.{one_stands}
 use Rattle.store_session.specs.StoredStates.{StoredState, state_of, version_text, version_for, opened_as, stands_for}
-use Rattle.store_session.specs.StoredStates.{counted, count_of, answer, ReadsAsChange, IsStep, HasSnapshot}
+use Rattle.store_session.specs.StoredStates.{counted, changes_counted, answer, ReadsAsChange, IsStep, HasSnapshot}
 use Rattle.store_session.specs.StoredStates.{snapshot_text}
 use Rattle.store_session.specs.AnswerSteps.{Fit, fit_of_line, Steps, kinds}
 use Rattle.store_session.specs.TypedStores.{typed_stood}
@@ -81,10 +81,10 @@ module _ (ps : List (List ℕ)) (t : StoredState) (v : List ℕ) (h : stands_for
   pub version_stands : stands_for (ps ++ v ∷ []) ≡ Ok (t, None)
   version_stands = opened_behind (stood ps t (Some v) h)
 
-  counted_behind : (k : Stood ps t (Some v)) → count_of (ps ++ v ∷ []) ≡ count_of ps
+  counted_behind : (k : Stood ps t (Some v)) → changes_counted (ps ++ v ∷ []) ≡ changes_counted ps
   counted_behind k = ap counted (behind_version k) ∙ sym (ap counted k.is)
 
-  pub version_counts : count_of (ps ++ v ∷ []) ≡ count_of ps
+  pub version_counts : changes_counted (ps ++ v ∷ []) ≡ changes_counted ps
   version_counts = counted_behind (stood ps t (Some v) h)
 
 -- ---- a change
@@ -129,10 +129,10 @@ module _ (ps : List (List ℕ)) (t t' : StoredState) (n : ℕ) (line : Line) (a 
   pub change_stands : stands_for (ps ++ p ∷ []) ≡ Ok (t', None)
   change_stands = ap opened_as (behind_change (stood ps t None h))
 
-  counted_change : (k : Stood ps t None) → count_of (ps ++ p ∷ []) ≡ count_of ps + 1
+  counted_change : (k : Stood ps t None) → changes_counted (ps ++ p ∷ []) ≡ changes_counted ps + 1
   counted_change k = ap counted (behind_change k) ∙ ap (λ r. counted r + 1) (sym k.is)
 
-  pub change_counts : count_of (ps ++ p ∷ []) ≡ count_of ps + 1
+  pub change_counts : changes_counted (ps ++ p ∷ []) ≡ changes_counted ps + 1
   change_counts = counted_change (stood ps t None h)
 
 -- ---- a snapshot
@@ -155,8 +155,8 @@ module _ (ps : List (List ℕ)) (t : StoredState) (h : stands_for ps ≡ Ok (t, 
   pub snapshot_stands : stands_for (ps ++ snapshot_text t ∷ []) ≡ Ok (t, None)
   snapshot_stands = stands_snapshot (stood ps t None h)
 
-  counts_snapshot : (k : Stood ps t None) → count_of (ps ++ snapshot_text t ∷ []) ≡ count_of ps
+  counts_snapshot : (k : Stood ps t None) → changes_counted (ps ++ snapshot_text t ∷ []) ≡ changes_counted ps
   counts_snapshot k = ap counted (behind_snapshot k ∙ sym k.is)
 
-  pub snapshot_counts : count_of (ps ++ snapshot_text t ∷ []) ≡ count_of ps
+  pub snapshot_counts : changes_counted (ps ++ snapshot_text t ∷ []) ≡ changes_counted ps
   snapshot_counts = counts_snapshot (stood ps t None h)

@@ -1,5 +1,6 @@
 -- A session of the program as a store has it: its state, what payloads stand for, and the answer to a line. In order:
--- `StoredState`, `stands_for` and `count_of`, `answer` with `IsStep`, `state_text`, `snapshot_text` with `HasSnapshot`,
+-- `StoredState`, `stands_for` and `changes_counted`, `answer` with `IsStep`, `state_text`, `snapshot_text` with
+-- `HasSnapshot`,
 -- and all of them as `stored_session`.
 use Rattle.std.specs.Prelude.{◌≡◌, ℕ, List, true, Option, Some, None, option_map, Result, Ok, Err, if◌then◌else◌}
 use Rattle.std.specs.Prelude.{nat_eq, IfSome}
@@ -64,8 +65,8 @@ counted (Ok s) = s.count
 counted (Err fault) = 0
 
 -- how many payloads are of changes
-abbrev pub count_of : List (List ℕ) → ℕ
-count_of payloads = counted (stands payloads)
+abbrev pub changes_counted : List (List ℕ) → ℕ
+changes_counted payloads = counted (stands payloads)
 
 -- ---- the answer to a line
 
@@ -134,6 +135,6 @@ stored_session view = record {
   state_text = state_text;
   snapshot_text = snapshot_text;
   has_snapshot = HasSnapshot;
-  count_of = count_of;
+  count_of = changes_counted;
   stands_for = stands_for;
 }

@@ -31,7 +31,7 @@ impl StoredSession for StoreSession {
 
     ghost has_snapshot = { states.HasSnapshot };
 
-    ghost count_of = { states.count_of };
+    ghost count_of = { states.changes_counted };
 
     ghost stands_for = { states.stands_for };
 

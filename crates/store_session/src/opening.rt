@@ -8,7 +8,7 @@ ghost use Rattle.store_run.specs.Reopening.{IsReopenFault};
 ghost use Rattle.store_session.specs.ReopenOutcomes.{IsReopenFault as IsRecordFault};
 ghost use Rattle.store_session.specs.Stands.{stands};
 ghost use Rattle.store_session.specs.Standings.{standing};
-ghost use Rattle.store_session.specs.StoredStates.{stands_for, count_of, fault_of, version_for};
+ghost use Rattle.store_session.specs.StoredStates.{stands_for, changes_counted, fault_of, version_for};
 ghost use Rattle.store_session.specs.SessionStates.{session_state};
 
 use crate::session::StoreSession;
@@ -28,7 +28,7 @@ pub(crate) fn open(alloc: Global, payloads: &Payloads) -> Result<Opened<StoreSes
     ensures stands { MatchResult result
         (λ o. stands_for payloads.now ≡ Ok (session_state o.session.session, o.version))
         (IsReopenFault (stands_for payloads.now)) }
-    ensures count { IfOk result (λ o. o.count ≡ count_of payloads.now) }
+    ensures count { IfOk result (λ o. o.count ≡ changes_counted payloads.now) }
 {
     match open_records(alloc, payloads) {
         Ok(opened) => with_version(alloc, opened),

@@ -7,14 +7,14 @@ use Rattle.edit_journal.specs.Lines.{is_blank}
 use Rattle.edit_journal.specs.declared.line.Line.{Line}
 use Rattle.edit_journal.specs.declared.line.Line.TheVariants.{Text, TooLong}
 use Rattle.edit_module.specs.Words.{WordTree}
-use Rattle.view_hub.specs.Hubs.{HubTree, CarriedTree, Place, Refusal, no_view, no_apply, step}
+use Rattle.view_hub.specs.Hubs.{HubTree, CarriedTree, Place, ViewRefusal, no_view, no_apply, step}
 use Rattle.hub_run.specs.Answers.{no_edit}
 use Rattle.hub_run.specs.EditJson.{edit_if_json, edit_of_line, edit_of_tree}
 use Rattle.hub_run.specs.FormLenses.{form_lens}
 use Rattle.hub_run.specs.Runs as scripts
-use Rattle.hub_run.specs.Runs.{HubItem, HubState, answer_of, answered, take_hub_item}
-use Rattle.hub_records.specs.HubChanges.{one, as_hub_change, change_if_json, change_of_parts, change_of_line}
-use Rattle.hub_session.specs.HubAnswers.{answer, answer_item, edit_answered}
+use Rattle.hub_run.specs.Runs.{HubItem, HubState, answer_of, hub_answered, take_hub_item}
+use Rattle.hub_records.specs.HubChanges.{one, as_hub_change, hub_change_if_json, hub_change_of_parts, hub_change_of_line}
+use Rattle.hub_session.specs.HubAnswers.{stored_hub_answer, hub_answer_item, edit_answered}
 use Rattle.hub_session.specs.HubStates.{stored_hub}
 use Rattle.script_run.specs.LineRuns as scripted
 use Rattle.script_run.specs.declared.line_answers.Answer.{Answer}
@@ -24,16 +24,16 @@ use Rattle.store_text_laws.specs.HubsAlike.{is_group_tree, is_group, HasNoGroup,
 
 -- ---- a line that is no group is an edit, or it is refused for the same fault
 
-parts_alike : (o : Option Items) (d : Data) → is_some o ≡ false → change_of_parts o d ≡ as_hub_change one (edit_of_tree d)
+parts_alike : (o : Option Items) (d : Data) → is_some o ≡ false → hub_change_of_parts o d ≡ as_hub_change one (edit_of_tree d)
 parts_alike (Some ds) d h = cc
 parts_alike None d h = refl
 
-change_alike : (bytes : List ℕ) (o : Option Data) → tree_of_text bytes ≡ o → is_group_tree o ≡ false → change_of_line (Text bytes) ≡ as_hub_change one (edit_of_line (Text bytes))
+change_alike : (bytes : List ℕ) (o : Option Data) → tree_of_text bytes ≡ o → is_group_tree o ≡ false → hub_change_of_line (Text bytes) ≡ as_hub_change one (edit_of_line (Text bytes))
 change_alike bytes (Some d) is h =
-    ap change_if_json is ∙ parts_alike (group_items d) d h ∙ ap (λ o. as_hub_change one (edit_if_json o)) (sym is)
-change_alike bytes None is h = ap change_if_json is ∙ ap (λ o. as_hub_change one (edit_if_json o)) (sym is)
+    ap hub_change_if_json is ∙ parts_alike (group_items d) d h ∙ ap (λ o. as_hub_change one (edit_if_json o)) (sym is)
+change_alike bytes None is h = ap hub_change_if_json is ∙ ap (λ o. as_hub_change one (edit_if_json o)) (sym is)
 
-line_is_edit : (line : Line) → is_group line ≡ false → change_of_line line ≡ as_hub_change one (edit_of_line line)
+line_is_edit : (line : Line) → is_group line ≡ false → hub_change_of_line line ≡ as_hub_change one (edit_of_line line)
 line_is_edit (Text bytes) h = change_alike bytes (tree_of_text bytes) refl h
 line_is_edit TooLong h = refl
 
@@ -42,21 +42,21 @@ line_is_edit TooLong h = refl
 module _ (s : HubState) (n : ℕ) where
   -- what `hub` makes of an item
   abbrev script_item : HubItem → Option (HubState × Answer)
-  script_item item = option_map (answered s.forms n) (take_hub_item form_lens s.forms s.hub item)
+  script_item item = option_map (hub_answered s.forms n) (take_hub_item form_lens s.forms s.hub item)
 
-  edit_alike : (e : Place × WordTree) (o : Option (Result (HubTree × CarriedTree) Refusal))
-      → option_map (edit_answered s n e) o ≡ option_map (stored_as (Ok e)) (option_map (answered s.forms n) (option_map (answer_of s.hub) o))
+  edit_alike : (e : Place × WordTree) (o : Option (Result (HubTree × CarriedTree) ViewRefusal))
+      → option_map (edit_answered s n e) o ≡ option_map (stored_as (Ok e)) (option_map (hub_answered s.forms n) (option_map (answer_of s.hub) o))
   edit_alike e None = refl
   edit_alike e (Some (Ok r)) = refl
   edit_alike e (Some (Err (no_view views))) = refl
   edit_alike e (Some (Err (no_apply at cause))) = refl
 
-  item_alike : (item : HubItem) → answer_item s n (as_hub_change one item) ≡ option_map (stored_as item) (script_item item)
+  item_alike : (item : HubItem) → hub_answer_item s n (as_hub_change one item) ≡ option_map (stored_as item) (script_item item)
   item_alike (Ok e) = edit_alike e (step form_lens s.forms s.hub e)
   item_alike (Err fault) = refl
 
-  pub line_alike : (line : Line) → is_group line ≡ false → answer s n line ≡ option_map (stored_as (edit_of_line line)) (scripts.answer s n line)
-  line_alike line h = ap (answer_item s n) (line_is_edit line h) ∙ item_alike (edit_of_line line)
+  pub line_alike : (line : Line) → is_group line ≡ false → stored_hub_answer s n line ≡ option_map (stored_as (edit_of_line line)) (scripts.hub_answer s n line)
+  line_alike line h = ap (hub_answer_item s n) (line_is_edit line h) ∙ item_alike (edit_of_line line)
 
 -- ---- whether an item is refused
 
@@ -67,7 +67,7 @@ refused_alike s n (Ok e) made h = by_answer made.1.refused where
   by_answer true = refl
   by_answer false = refl
 refused_alike s n (Err fault) made h =
-    let same : answered s.forms n (s.hub, no_edit fault) ≡ made = cc in
+    let same : hub_answered s.forms n (s.hub, no_edit fault) ≡ made = cc in
     ap (λ (x : HubState × Answer). x.1.refused) same
 
 -- ---- runs
@@ -84,7 +84,7 @@ module _ {A : Type 0} (view : A → HubState) where
   stored_run t n lines = run (stored_hub view) t n lines
 
   abbrev script_run : HubState → ℕ → List Line → Option ScriptSteps
-  script_run t n lines = scripted.run scripts.answer t n lines
+  script_run t n lines = scripted.run scripts.hub_answer t n lines
 
   abbrev stored_behind : ℕ → List Line → HubState × StoredAnswer → Option StoredSteps
   stored_behind n lines made = option_map (λ (steps : StoredSteps). made ∷ steps) (stored_run made.0 (n + 1) lines)
@@ -128,7 +128,7 @@ module _ {A : Type 0} (view : A → HubState) where
   pub runs_alike : (t : HubState) (n : ℕ) (lines : List Line) → HasNoGroup lines → HaveSameRun t (stored_run t n lines) (script_run t n lines)
   runs_alike t n [] h = inr (record { steps = []; others = []; is = refl; other_is = refl; same = record { text = refl; refused = refl; at_last = refl } })
   runs_alike t n (line ∷ lines) h =
-      by_blank t (is_blank line) (stored_run t n lines) (option_and_then (stored_behind n lines) (answer t (n + 1) line))
-      (script_run t n lines) (option_and_then (script_behind n lines) (scripts.answer t (n + 1) line)) (runs_alike t n lines h.1)
-      (by_answer t n lines (edit_of_line line) (answer t (n + 1) line) (scripts.answer t (n + 1) line) (line_alike t (n + 1) line h.0)
+      by_blank t (is_blank line) (stored_run t n lines) (option_and_then (stored_behind n lines) (stored_hub_answer t (n + 1) line))
+      (script_run t n lines) (option_and_then (script_behind n lines) (scripts.hub_answer t (n + 1) line)) (runs_alike t n lines h.1)
+      (by_answer t n lines (edit_of_line line) (stored_hub_answer t (n + 1) line) (scripts.hub_answer t (n + 1) line) (line_alike t (n + 1) line h.0)
       (λ made is. refused_alike t (n + 1) (edit_of_line line) made is) (λ u. runs_alike u (n + 1) lines h.1))

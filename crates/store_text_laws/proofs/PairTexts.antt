@@ -1,7 +1,7 @@
 -- What a call over the store of a pair writes is the report of a script of `run`.
 use Rattle.std.proofs.Common.{◌≡◌, ℕ, List, [], ◌∷◌, ◌++◌, None, Some, Ok, ap, ◌∙◌}
 use Rattle.accepted_programs.specs.Program.{lens_of}
-use Rattle.command_ends.specs.Statuses.{IsFinished, end_of}
+use Rattle.command_ends.specs.Statuses.{IsFinished, status_at_end}
 use Rattle.command_ends.specs.declared.status.Status.{Status}
 use Rattle.edit_journal.specs.Pieces.{lines_of}
 use Rattle.edit_session.specs.Run as journals
@@ -12,9 +12,10 @@ use Rattle.lens_io.specs.declared.disk.Disk as OfDisk
 use Rattle.lens_io.specs.declared.sink.Sink as OfSink
 use Rattle.lens_io.specs.declared.source.Source as OfSource
 use Rattle.pair_answers.specs.Answers.{answer_lines, text_from}
-use Rattle.pair_answers.specs.ItemRuns.{first_of, items_of, run_of}
+use Rattle.pair_answers.specs.ItemRuns.{triple_at_first, items_of, run_of}
 use Rattle.script_input.specs.Lines.{program_part}
 use Rattle.store_new.specs.Init.{Starts, program_payload}
+use Rattle.store_run.specs.Devices.{Devices}
 use Rattle.store_run.specs.ApplyCall.{ContinuesCall}
 use Rattle.store_run.specs.StoreRuns.{kept_of, last, text_of}
 use Rattle.store_session.specs.Journals.{IsJournalRun}
@@ -27,12 +28,12 @@ use Rattle.store_session.proofs.StatesInStep.{stored_sound}
 use Rattle.one_text_laws.proofs.PairReports.{run_is_report}
 use Rattle.store_text_laws.specs.StoreTexts.{AnswersAsRun}
 
-module _ {S K D : Type 0} (source : OfSource.Ghosts S) (sink : OfSink.Ghosts K) (disk : OfDisk.Ghosts D) (old1 new1 old2 new2 : S × K × D) (status : Status) (image : List ℕ)
-    (made : Starts source sink disk old1 new1) (told : disk.content old2.2 ≡ Some image) (holds : HoldsPayloads (program_payload made.program ∷ []) image) where
+module _ {S K D : Type 0} (source : OfSource.Ghosts S) (sink : OfSink.Ghosts K) (disk : OfDisk.Ghosts D) (old1 new1 old2 new2 : Devices S K D) (status : Status) (image : List ℕ)
+    (made : Starts source sink disk old1 new1) (told : disk.content old2.disk ≡ Some image) (holds : HoldsPayloads (program_payload made.program ∷ []) image) where
   abbrev start : StoredState
-  start = state_with made.form (first_of made.form)
+  start = state_with made.form (triple_at_first made.form)
 
-  abbrev store : Store disk old2.2
+  abbrev store : Store disk old2.disk
   store = record {
     bytes = image;
     told = told;
@@ -43,13 +44,13 @@ module _ {S K D : Type 0} (source : OfSource.Ghosts S) (sink : OfSink.Ghosts K) 
     stands = ap opened_as made.stand;
   }
 
-  module _ (c : ContinuesCall source sink disk sessions (old2.0, old2.1) new2 store.payloads store.state store.version status) where
+  module _ (c : ContinuesCall source sink disk sessions (old2.source, old2.sink) new2 store.payloads store.state store.version status) where
     journal_run : IsJournalRun start 0 (lines_of c.bytes) c.steps
     journal_run =
         let sound = stored_sound store.payloads start None store.stands in
         runs_alike (λ (s : StoreSession). session_state s.session) start 0 (lines_of c.bytes) c.steps sound.0 sound.1 c.is_run
 
-    text_is : text_of c.steps ++ state_text (last start c.steps) ≡ text_from made.form (first_of made.form) journal_run.journal
+    text_is : text_of c.steps ++ state_text (last start c.steps) ≡ text_from made.form (triple_at_first made.form) journal_run.journal
     text_is =
         let j = journal_run in
         ap (λ text. text ++ state_text (last start c.steps)) j.text ∙ ap (λ (u : StoredState). answer_lines 1 j.journal ++ state_text u) j.at_last
@@ -69,7 +70,7 @@ module _ {S K D : Type 0} (source : OfSource.Ghosts S) (sink : OfSink.Ghosts K) 
             steps = j.journal;
             is_run = ap (λ l. run_of made.form (items_of l)) lines ∙ j.is_run;
             is_text = text_is;
-            is_status = c.ended ∙ ap end_of j.refused;
+            is_status = c.ended ∙ ap status_at_end j.refused;
           });
           form = made.form;
           lens = made.accepted.has_lens;

@@ -8,7 +8,7 @@ use Rattle.edit_journal.specs.declared.line.Line.{Line}
 use Rattle.edit_journal.specs.declared.line.Line.TheVariants.{Text, TooLong}
 use Rattle.hub_records.specs.HubChanges.{one}
 use Rattle.hub_run.specs.Runs.{HubItem, HubState}
-use Rattle.hub_session.specs.HubAnswers.{change_text}
+use Rattle.hub_session.specs.HubAnswers.{hub_change_text}
 use Rattle.script_run.specs.LineRuns as lines
 use Rattle.script_run.specs.declared.line_answers.Answer.{Answer}
 use Rattle.store_run.specs.StoreRuns.{any_refused, last, text_of}
@@ -34,7 +34,7 @@ HasNoGroup lines = AllByRecursion (λ line. is_group line ≡ false) lines
 -- the payload of an item with an answer that is refused or not: that of the change, if it is accepted
 abbrev pub edit_payload : HubItem → Bool → Option (List ℕ)
 edit_payload (Ok e) true = None
-edit_payload (Ok e) false = Some (change_text (one e))
+edit_payload (Ok e) false = Some (hub_change_text (one e))
 edit_payload (Err fault) refused = None
 
 -- what `hub` makes of an item, as a store has it: the same state and the same line, and the payload of the change

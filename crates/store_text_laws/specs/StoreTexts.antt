@@ -8,32 +8,33 @@ use Rattle.edit_session.specs.Run as journals
 use Rattle.edit_session.specs.Step.{TripleTree}
 use Rattle.gate_log.specs.LogOnDisk.{HoldsPayloads}
 use Rattle.hub_run.specs.HubScript.{hub_script}
-use Rattle.hub_run.specs.Runs.{HubState, state_text}
+use Rattle.hub_run.specs.Runs.{HubState, hub_state_text}
 use Rattle.hub_session.specs.HubStates as hubs
 use Rattle.lens_forms.specs.Forms.{FormTree}
 use Rattle.lens_io.specs.Calls.{Took, IsRead, Gave}
 use Rattle.lens_io.specs.declared.disk.Disk as OfDisk
 use Rattle.lens_io.specs.declared.sink.Sink as OfSink
 use Rattle.lens_io.specs.declared.source.Source as OfSource
-use Rattle.pair_answers.specs.ItemRuns.{JournalAnswer, first_of, items_of, run_of}
+use Rattle.pair_answers.specs.ItemRuns.{JournalAnswer, triple_at_first, items_of, run_of}
 use Rattle.pair_run.specs.Scripts.{pair_script}
 use Rattle.script_input.specs.Lines.{journal, program_part}
 use Rattle.script_run.specs.Report.{report}
 use Rattle.store_session.specs.StoredStates.{stands_for, state_with}
 use Rattle.store_text_laws.specs.HubsAlike.{HasNoGroup}
+use Rattle.store_run.specs.Devices.{Devices}
 
 module _ {S K D : Type 0} (source : OfSource.Ghosts S) (sink : OfSink.Ghosts K) (disk : OfDisk.Ghosts D)
-    (old new : S × K × D) where
+    (old new : Devices S K D) where
   -- The call read its source to the end. It wrote what `run` writes for every script that has this program part, and as
   -- its journal the lines of the source; the status is the same. The store represents the last triple of that run.
   pub record AnswersAsRun (status : Status) (part : List ℕ) : Type 0 where
     -- the bytes that the call took: all that the source had
     pub bytes : List ℕ
-    pub took : Took source old.0 new.0 bytes
-    pub read : IsRead source old.0 new.0
+    pub took : Took source old.source new.source bytes
+    pub read : IsRead source old.source new.source
     -- what it wrote
     pub text : List ℕ
-    pub gave : Gave sink old.1 new.1 text
+    pub gave : Gave sink old.sink new.sink text
     pub is_report : (script : List ℕ) → program_part script ≡ part → journal script ≡ lines_of bytes
         → report pair_script script ≡ Some (text, status)
     -- the lens of the program part, and its run over the items of these lines
@@ -43,25 +44,25 @@ module _ {S K D : Type 0} (source : OfSource.Ghosts S) (sink : OfSink.Ghosts K) 
     pub is_run : run_of form (items_of (lines_of bytes)) ≡ Some steps
     -- the disk holds payloads that stand for the last triple of the run
     pub payloads : List (List ℕ)
-    pub holds : IfSome (disk.content new.2) (HoldsPayloads payloads)
-    pub stands : stands_for payloads ≡ Ok (state_with form (journals.last (first_of form) steps), None)
+    pub holds : IfSome (disk.content new.disk) (HoldsPayloads payloads)
+    pub stands : stands_for payloads ≡ Ok (state_with form (journals.last (triple_at_first form) steps), None)
 
   -- The call read its source to the end, and none of its lines is a group. It wrote what `hub` writes for every script
   -- that has this program part, and as its journal the lines of the source; the status is the same.
   pub record AnswersAsHub (status : Status) (part : List ℕ) : Type 0 where
     -- the bytes that the call took: all that the source had
     pub bytes : List ℕ
-    pub took : Took source old.0 new.0 bytes
-    pub read : IsRead source old.0 new.0
+    pub took : Took source old.source new.source bytes
+    pub read : IsRead source old.source new.source
     -- what it wrote
     pub text : List ℕ
-    pub gave : Gave sink old.1 new.1 text
+    pub gave : Gave sink old.sink new.sink text
     pub is_report : HasNoGroup (lines_of bytes) → (script : List ℕ) → program_part script ≡ part
         → journal script ≡ lines_of bytes → report hub_script script ≡ Some (text, status)
     -- the disk holds payloads that stand for a hub, and the state lines of that hub are the last lines that it wrote
     pub payloads : List (List ℕ)
     pub state : HubState
     pub answers : List ℕ
-    pub is_text : text ≡ answers ++ state_text state
-    pub holds : IfSome (disk.content new.2) (HoldsPayloads payloads)
-    pub stands : hubs.stands_for payloads ≡ Ok (state, None)
+    pub is_text : text ≡ answers ++ hub_state_text state
+    pub holds : IfSome (disk.content new.disk) (HoldsPayloads payloads)
+    pub stands : hubs.hub_stands_for payloads ≡ Ok (state, None)

@@ -12,12 +12,13 @@ ghost use Rattle.edithub_main.specs.HubApplies.{HubApplies};
 ghost use Rattle.editlens_main.specs.Applies.{Applies};
 ghost use Rattle.hub_new.specs.HubInit.{StartsHub};
 ghost use Rattle.hub_run.specs.EditJson.{edit_of_line};
-ghost use Rattle.hub_run.specs.Runs.{HubState, answer as script_answer};
-ghost use Rattle.hub_session.specs.HubAnswers.{answer as stored_answer};
+ghost use Rattle.hub_run.specs.Runs.{HubState, hub_answer as script_answer};
+ghost use Rattle.hub_session.specs.HubAnswers.{stored_hub_answer as stored_answer};
 ghost use Rattle.hub_session.specs.contracts.instance.HubSessionStoredSession.TheImpl.{ghosts as hubs};
 ghost use Rattle.script_input.specs.Lines.{program_part};
 ghost use Rattle.script_run.specs.LineRuns.{run as script_run};
 ghost use Rattle.store_new.specs.Init.{Starts};
+ghost use Rattle.store_run.specs.Devices.{Devices};
 ghost use Rattle.store_run.specs.StoreRuns.{run};
 ghost use Rattle.store_text_laws.specs.HubsAlike.{HasNoGroup, HaveSameRun, is_group, stored_as};
 ghost use Rattle.store_text_laws.specs.StoreTexts.{AnswersAsHub, AnswersAsRun};
@@ -32,14 +33,14 @@ use lens_io::{Disk, Sink, Source};
 /// - `finished`: these bytes are what the disk has after `init`.
 /// - `crash`: they are an image that a crash after `init` may leave.
 pub fn init_and_apply_answer_as_run<S: Source, K: Sink, D: Disk>()
-    ensures finished { (old1 new1 old2 new2 : S × K × D) (status : Status) (image : List ℕ)
-        (made : Starts S.Source K.Sink D.Disk old1 new1) → D.Disk.content new1.2 ≡ Some image
-        → D.Disk.content old2.2 ≡ Some image
+    ensures finished { (old1 new1 old2 new2 : Devices S K D) (status : Status) (image : List ℕ)
+        (made : Starts S.Source K.Sink D.Disk old1 new1) → D.Disk.content new1.disk ≡ Some image
+        → D.Disk.content old2.disk ≡ Some image
         → Applies S.Source K.Sink D.Disk old2 new2 status → IsFinished status
         → AnswersAsRun S.Source K.Sink D.Disk old2 new2 status (program_part made.bytes) }
-    ensures crash { (old1 new1 old2 new2 : S × K × D) (status : Status) (image : List ℕ)
-        (made : Starts S.Source K.Sink D.Disk old1 new1) → D.Disk.images new1.2 image
-        → D.Disk.content old2.2 ≡ Some image
+    ensures crash { (old1 new1 old2 new2 : Devices S K D) (status : Status) (image : List ℕ)
+        (made : Starts S.Source K.Sink D.Disk old1 new1) → D.Disk.images new1.disk image
+        → D.Disk.content old2.disk ≡ Some image
         → Applies S.Source K.Sink D.Disk old2 new2 status → IsFinished status
         → AnswersAsRun S.Source K.Sink D.Disk old2 new2 status (program_part made.bytes) }
 {}
@@ -64,14 +65,14 @@ pub fn a_stored_hub_answers_as_hub()
 /// - `finished`: these bytes are what the disk has after `init`.
 /// - `crash`: they are an image that a crash after `init` may leave.
 pub fn init_and_apply_answer_as_hub<S: Source, K: Sink, D: Disk>()
-    ensures finished { (old1 new1 old2 new2 : S × K × D) (status : Status) (image : List ℕ)
-        (made : StartsHub S.Source K.Sink D.Disk old1 new1) → D.Disk.content new1.2 ≡ Some image
-        → D.Disk.content old2.2 ≡ Some image
+    ensures finished { (old1 new1 old2 new2 : Devices S K D) (status : Status) (image : List ℕ)
+        (made : StartsHub S.Source K.Sink D.Disk old1 new1) → D.Disk.content new1.disk ≡ Some image
+        → D.Disk.content old2.disk ≡ Some image
         → HubApplies S.Source K.Sink D.Disk old2 new2 status → IsFinished status
         → AnswersAsHub S.Source K.Sink D.Disk old2 new2 status (program_part made.bytes) }
-    ensures crash { (old1 new1 old2 new2 : S × K × D) (status : Status) (image : List ℕ)
-        (made : StartsHub S.Source K.Sink D.Disk old1 new1) → D.Disk.images new1.2 image
-        → D.Disk.content old2.2 ≡ Some image
+    ensures crash { (old1 new1 old2 new2 : Devices S K D) (status : Status) (image : List ℕ)
+        (made : StartsHub S.Source K.Sink D.Disk old1 new1) → D.Disk.images new1.disk image
+        → D.Disk.content old2.disk ≡ Some image
         → HubApplies S.Source K.Sink D.Disk old2 new2 status → IsFinished status
         → AnswersAsHub S.Source K.Sink D.Disk old2 new2 status (program_part made.bytes) }
 {}

@@ -20,7 +20,7 @@ use Rattle.complement_file.specs.ComplementJson.{tree_of_complement}
 use Rattle.value_json.specs.DocumentJson.{tree_of_document}
 use Rattle.pair_answers.specs.Answers.{state_lines}
 use Rattle.lens_forms.specs.Forms.{FormTree, left_type, right_type}
-use Rattle.store_records.specs.RecordJson.{one_member}
+use Rattle.value_json.specs.SmallTrees.{one_member}
 use Rattle.store_records.proofs.PayloadTrees.{string_read}
 use Rattle.store_session.specs.StoredStates.{HasSnapshot, snapshot_text, state_with}
 use Rattle.store_undo.specs.TreeTexts.{IsTreeText, AreTreeTexts}

@@ -19,9 +19,9 @@ use Rattle.store_run.proofs.Moments.{leaves_more, leaves_then}
 use Rattle.store_run.proofs.Openings.{opening_then}
 use Rattle.store_run.proofs.PackCalls.{never_finished, now_at, moments_at}
 use Rattle.store_session.specs.Stands.{Standing, stands}
-use Rattle.store_undo.specs.UndoCall.{IsImage, UndoesCall, IsSafeUndo}
+use Rattle.store_undo.specs.UndoCall.{IsUndoneImage, UndoesCall, IsSafeUndo}
 use Rattle.store_undo.specs.UndoEnds.{UndoEnds}
-use Rattle.store_undo.specs.UndoRecords.{version_due, snapshot_text, undo_text, TakesBack}
+use Rattle.store_undo.specs.UndoRecords.{version_due, undo_snapshot_text, undo_text, TakesBack}
 use Rattle.store_undo.specs.Undoing.{Undoing, undoing_from, undoing_of, undoing, last_changes, payloads_before}
 use Rattle.store_undo.proofs.VersionRecords.{front_stands}
 use Rattle.edit_undo.specs.Undone.{BothTrees}
@@ -68,9 +68,9 @@ first_parts (v ∷ vs) s (p ∷ front) rest e =
 
 -- the first of the new records behind the payloads
 pub image_of : (held : List (List ℕ)) (u : Undoing) (c : List ℕ) → stands held ≡ Ok u.now → TakesBack held u
-    → HoldsFirst held (option_to_list (version_due u.now.version) ++ snapshot_text u ∷ []) c → IsImage held u c
+    → HoldsFirst held (option_to_list (version_due u.now.version) ++ undo_snapshot_text u ∷ []) c → IsUndoneImage held u c
 image_of held u c h back first =
-    elim (first_parts (option_to_list (version_due u.now.version)) (snapshot_text u) first.front first.rest first.parts) [
+    elim (first_parts (option_to_list (version_due u.now.version)) (undo_snapshot_text u) first.front first.rest first.parts) [
       | inl e ↦
           let now = front_stands held first.front e.0 u.now h e.1 in
           inl (record { front = first.front; rest = e.0; parts = e.1; holds = first.holds; version = now.0; stand = now.1 })
@@ -78,7 +78,7 @@ image_of held u c h back first =
     ]
 
 -- the payloads alone
-pub image_before : (held : List (List ℕ)) (u : Undoing) (c : List ℕ) → stands held ≡ Ok u.now → HoldsPayloads held c → IsImage held u c
+pub image_before : (held : List (List ℕ)) (u : Undoing) (c : List ℕ) → stands held ≡ Ok u.now → HoldsPayloads held c → IsUndoneImage held u c
 image_before held u c h holds =
     inl (record {
       front = [];
@@ -99,10 +99,10 @@ module _ {K D : Type 0} (sink : OfSink.Ghosts K) (disk : OfDisk.Ghosts D)
   version = option_to_list (version_due u.now.version)
 
   abbrev records : List (List ℕ)
-  records = version ++ snapshot_text u ∷ []
+  records = version ++ undo_snapshot_text u ∷ []
 
   stored_done : (d1 : D) (l l' : LogState) (status : Status) → status ≡ ending.Done → TakesBack before u → StandsOn disk d1 l before
-      → StoreEnds sink disk (k, d1, l) (k', d', l') (undo_text u) version (snapshot_text u) status
+      → StoreEnds sink disk (k, d1, l) (k', d', l') (undo_text u) version (undo_snapshot_text u) status
       → UndoesCall sink disk (k, d) (k', d') before u
   stored_done d1 l l' status is back st (inl e) = record { given = e.1.given; kept = read_holds l' d' (before ++ records) (e.1.stored before st); takes_back = back }
   stored_done d1 l l' status is back st (inr s) = elim s.status_is [ inl e ↦ absurd (never_finished s.stop status e.0 (inl is)) | inr e ↦ cc ]
@@ -115,7 +115,7 @@ module _ {K D : Type 0} (sink : OfSink.Ghosts K) (disk : OfDisk.Ghosts D)
 
   -- how it ends, with no word of what the records are worth
   pub exits_of : (status : Status) → UndoEnds sink disk (k, d) (k', d') before u status
-      → StoresBehind sink disk (k, d) (k', d') (λ d1 _. IsOpening disk d d1) before (undo_text u) version (snapshot_text u) status
+      → StoresBehind sink disk (k, d) (k', d') (λ d1 _. IsOpening disk d d1) before (undo_text u) version (undo_snapshot_text u) status
       ⊎ IsUnwritten disk d d' × FailsUnopened sink disk (k, d) (k', d') status
   exits_of status (inl e) = inl (record { d1 = e.d1; log = e.log; log' = e.log'; opens = e.opens; stands = e.stands; ends = e.ends })
   exits_of status (inr e) = inr (e.opens.unwritten, e.fails)
@@ -127,25 +127,25 @@ module _ {K D : Type 0} (sink : OfSink.Ghosts K) (disk : OfDisk.Ghosts D)
         → LeavesOnly disk d1 d' (HoldsFirst before records) → IsSafeUndo disk d d' before u
     safe_of d1 reached back now moments = record {
       now = λ c is. image_of before u c h back (now c is);
-      moments = leaves_then disk d d1 d' (disk.images d) (HoldsFirst before records) (λ c. disk.images d c ⊎ IsImage before u c)
+      moments = leaves_then disk d d1 d' (disk.images d) (HoldsFirst before records) (λ c. disk.images d c ⊎ IsUndoneImage before u c)
           (λ c p. inl p) (λ c f. inr (image_of before u c h back f)) reached moments;
     }
 
     stopped_safe : (d1 : D) (l l' : LogState) (k1 : K) (stop : Stop) → LeavesOnly disk d d1 (disk.images d) → TakesBack before u → StandsOn disk d1 l before
         → Stops sink disk (k, d1, l) (k1, d', l') stop [] [] [] version
-        ⊎ Stops sink disk (k, d1, l) (k1, d', l') stop [] (undo_text u) version (snapshot_text u ∷ [])
+        ⊎ Stops sink disk (k, d1, l) (k1, d', l') stop [] (undo_text u) version (undo_snapshot_text u ∷ [])
         → IsSafeUndo disk d d' before u
     stopped_safe d1 l l' k1 stop reached back st (inl s) =
         safe_of d1 reached back
-        (now_at sink disk images_hold stop k k1 d1 d' l l' before records [] [] [] version (snapshot_text u ∷ []) refl s st)
-        (moments_at sink disk images_hold stop k k1 d1 d' l l' before records [] [] [] version (snapshot_text u ∷ []) refl s st)
+        (now_at sink disk images_hold stop k k1 d1 d' l l' before records [] [] [] version (undo_snapshot_text u ∷ []) refl s st)
+        (moments_at sink disk images_hold stop k k1 d1 d' l l' before records [] [] [] version (undo_snapshot_text u ∷ []) refl s st)
     stopped_safe d1 l l' k1 stop reached back st (inr s) =
         safe_of d1 reached back
-        (now_at sink disk images_hold stop k k1 d1 d' l l' before records [] (undo_text u) version (snapshot_text u ∷ []) [] (append-nil records) s st)
-        (moments_at sink disk images_hold stop k k1 d1 d' l l' before records [] (undo_text u) version (snapshot_text u ∷ []) [] (append-nil records) s st)
+        (now_at sink disk images_hold stop k k1 d1 d' l l' before records [] (undo_text u) version (undo_snapshot_text u ∷ []) [] (append-nil records) s st)
+        (moments_at sink disk images_hold stop k k1 d1 d' l l' before records [] (undo_text u) version (undo_snapshot_text u ∷ []) [] (append-nil records) s st)
 
     stored_safe : (d1 : D) (l l' : LogState) (status : Status) → LeavesOnly disk d d1 (disk.images d) → TakesBack before u → StandsOn disk d1 l before
-        → StoreEnds sink disk (k, d1, l) (k', d', l') (undo_text u) version (snapshot_text u) status
+        → StoreEnds sink disk (k, d1, l) (k', d', l') (undo_text u) version (undo_snapshot_text u) status
         → IsSafeUndo disk d d' before u
     stored_safe d1 l l' status reached back st (inl e) =
         safe_of d1 reached back (λ c is. first_all before records c (images_hold l' d' (before ++ records) c (e.1.stored before st) is)) (e.1.moments before st)
@@ -155,7 +155,7 @@ module _ {K D : Type 0} (sink : OfSink.Ghosts K) (disk : OfDisk.Ghosts D)
     pub safe_kept : ((c : List ℕ) → disk.images d' c → HoldsPayloads before c) → LeavesOnly disk d d' (disk.images d) → IsSafeUndo disk d d' before u
     safe_kept holds moments = record {
       now = λ c is. image_before before u c h (holds c is);
-      moments = leaves_more disk d d' (disk.images d) (λ c. disk.images d c ⊎ IsImage before u c) (λ c p. inl p) moments;
+      moments = leaves_more disk d d' (disk.images d) (λ c. disk.images d c ⊎ IsUndoneImage before u c) (λ c p. inl p) moments;
     }
 
     pub safe_of_ends : (status : Status) → UndoEnds sink disk (k, d) (k', d') before u status → IsSafeUndo disk d d' before u

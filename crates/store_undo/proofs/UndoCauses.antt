@@ -19,9 +19,9 @@ use Rattle.store_run.proofs.Effects.{records_append, if_known}
 use Rattle.store_run.proofs.Rooms.{gate_of, none_some}
 use Rattle.store_session.specs.Stands.{stands}
 use Rattle.store_undo.specs.UndoCall.{HoldsNow}
-use Rattle.store_undo.specs.UndoCauses.{UndoHasNoRoom, IsCauseInRoom}
+use Rattle.store_undo.specs.UndoCauses.{UndoHasNoRoom, IsUndoCauseInRoom}
 use Rattle.store_undo.specs.UndoEnds.{UndoEnds}
-use Rattle.store_undo.specs.UndoRecords.{version_due, snapshot_text, undo_text}
+use Rattle.store_undo.specs.UndoRecords.{version_due, undo_snapshot_text, undo_text}
 use Rattle.store_undo.specs.Undoing.{Undoing}
 use Rattle.store_undo.proofs.VersionRecords.{front_stands}
 
@@ -44,11 +44,11 @@ over_more : (most gate : ℕ) (begun more : List (List ℕ)) → IsOver most gat
 over_more most gate [] more h = absurd h
 over_more most gate (p ∷ rest) more h = h
 
-cause_at : (status other : Status) (o : Option ℕ) (before : List (List ℕ)) (u : Undoing) → status ≡ other → IsCauseInRoom o before u other → IsCauseInRoom o before u status
-cause_at status other o before u e h = subst (IsCauseInRoom o before u) (sym e) h
+cause_at : (status other : Status) (o : Option ℕ) (before : List (List ℕ)) (u : Undoing) → status ≡ other → IsUndoCauseInRoom o before u other → IsUndoCauseInRoom o before u status
+cause_at status other o before u e h = subst (IsUndoCauseInRoom o before u) (sym e) h
 
 -- a status that has no cause does not come
-pub undo_complete : (status : Status) (o : Option ℕ) (before : List (List ℕ)) (u : Undoing) → IsCauseInRoom o before u status
+pub undo_complete : (status : Status) (o : Option ℕ) (before : List (List ℕ)) (u : Undoing) → IsUndoCauseInRoom o before u status
     → (status ≡ ending.SinkFault → ⊥) → (status ≡ ending.DiskFault → ⊥) → (UndoHasNoRoom most_bytes before u → ⊥) → (status ≡ ending.Done) ⊎ (status ≡ ending.NoMemory)
 undo_complete ending.Done o before u h sink disk none = inl refl
 undo_complete ending.NoMemory o before u h sink disk none = inr refl
@@ -80,7 +80,7 @@ module _ {K D : Type 0} (sink : OfSink.Ghosts K) (disk : OfDisk.Ghosts D) (befor
   version = option_to_list (version_due u.now.version)
 
   abbrev last : List (List ℕ)
-  last = snapshot_text u ∷ []
+  last = undo_snapshot_text u ∷ []
 
   -- the call was stopped at the version record, or at the snapshot
   abbrev StopsAt : K → D → LogState → K → D → LogState → Stop → Type 0
@@ -97,7 +97,7 @@ module _ {K D : Type 0} (sink : OfSink.Ghosts K) (disk : OfDisk.Ghosts D) (befor
     over_snapshot : (most : ℕ) → IsOver most (l.gate + records_length version) last → UndoHasNoRoom most before u
     over_snapshot most h = no_room_of most (l.gate + records_length version) before version last (version ++ last) (gate_behind l.gate before version g) refl h
 
-    stop_cause : (stop : Stop) → IsOwnStop stop → StopsAt k d l k1 d' l' stop → IsCauseInRoom (disk.room d) before u (status_of stop)
+    stop_cause : (stop : Stop) → IsOwnStop stop → StopsAt k d l k1 d' l' stop → IsUndoCauseInRoom (disk.room d) before u (status_of stop)
     stop_cause LogFull own (inl s) = over_version most_bytes s.full
     stop_cause LogFull own (inr s) = over_snapshot most_bytes s.full
     stop_cause DiskFault own (inl s) = if_known (disk.room d) (λ most. IsOver most (l.gate + records_length []) version) (λ most. UndoHasNoRoom most before u) over_version s.full
@@ -108,7 +108,7 @@ module _ {K D : Type 0} (sink : OfSink.Ghosts K) (disk : OfDisk.Ghosts D) (befor
     stop_cause TooLong own s = absurd own
 
   ends_cause : (k k' : K) (d d' : D) (l l' : LogState) (status : Status) → l.gate ≡ closed_gate before
-      → StoreEnds sink disk (k, d, l) (k', d', l') (undo_text u) version (snapshot_text u) status → IsCauseInRoom (disk.room d) before u status
+      → StoreEnds sink disk (k, d, l) (k', d', l') (undo_text u) version (undo_snapshot_text u) status → IsUndoCauseInRoom (disk.room d) before u status
   ends_cause k k' d d' l l' status g (inl h) = cause_at status ending.Done (disk.room d) before u h.0 tt
   ends_cause k k' d d' l l' status g (inr s) = elim s.status_is [
     | inl e ↦ cause_at status (status_of s.stop) (disk.room d) before u e.0 (stop_cause k s.k1 d d' l l' g s.stop s.own s.stops)
@@ -116,12 +116,12 @@ module _ {K D : Type 0} (sink : OfSink.Ghosts K) (disk : OfDisk.Ghosts D) (befor
   ]
 
   pub undo_cause : (k k' : K) (d d' : D) (bytes : List ℕ) (status : Status) → disk.content d ≡ Some bytes
-      → StoresBehind sink disk (k, d) (k', d') (λ d1 _. IsOpening disk d d1) before (undo_text u) version (snapshot_text u) status
+      → StoresBehind sink disk (k, d) (k', d') (λ d1 _. IsOpening disk d d1) before (undo_text u) version (undo_snapshot_text u) status
       ⊎ IsUnwritten disk d d' × FailsUnopened sink disk (k, d) (k', d') status
-      → IsCauseInRoom (disk.room d) before u status
+      → IsUndoCauseInRoom (disk.room d) before u status
   undo_cause k k' d d' bytes status told (inl e) =
       let g = gate_of (disk.content e.d1) (disk.images e.d1) e.log before bytes (e.opens.unwritten.same ∙ told) e.stands in
-      subst (λ (o : Option ℕ). IsCauseInRoom o before u status) e.opens.same_room (ends_cause k k' e.d1 d' e.log e.log' status g e.ends)
+      subst (λ (o : Option ℕ). IsUndoCauseInRoom o before u status) e.opens.same_room (ends_cause k k' e.d1 d' e.log e.log' status g e.ends)
   undo_cause k k' d d' bytes status told (inr e) = elim e.1.0.0 [
     | inl f ↦ cause_at status ending.DiskFault (disk.room d) before u f (none_some (disk.room d) (λ most. UndoHasNoRoom most before u) (e.1.1 f))
     | inr f ↦ cause_at status ending.NoMemory (disk.room d) before u f tt
@@ -151,7 +151,7 @@ module _ {K D : Type 0} (sink : OfSink.Ghosts K) (disk : OfDisk.Ghosts D) (befor
     stop_unstored k k1 d d' l l' TooLong is st s c now = elim is [ inl e ↦ cc | inr e ↦ cc ]
 
     ends_unstored : (k k' : K) (d d' : D) (l l' : LogState) (status : Status) → StoresNone status → StandsOn disk d l before
-        → StoreEnds sink disk (k, d, l) (k', d', l') (undo_text u) version (snapshot_text u) status → (c : List ℕ) → disk.images d' c → HoldsNow before u c
+        → StoreEnds sink disk (k, d, l) (k', d', l') (undo_text u) version (undo_snapshot_text u) status → (c : List ℕ) → disk.images d' c → HoldsNow before u c
     ends_unstored k k' d d' l l' status is st (inl e) c now = other_status status (HoldsNow before u c) is (inl e.0)
     ends_unstored k k' d d' l l' status is st (inr s) c now = elim s.status_is [
       | inl e ↦ stop_unstored k s.k1 d d' l l' s.stop (subst StoresNone e.0 is) st s.stops c now

@@ -19,7 +19,7 @@ use Rattle.store_session.specs.StoredStates as states
 use Rattle.store_run.specs.declared.refusals.StoreRefusal.{StoreRefusal}
 use Rattle.store_run.specs.declared.refusals.StoreRefusal.TheVariants.{BadRecord, NotConsistent}
 use Rattle.store_undo.specs.Undoing.{Undoing, undoing}
-use Rattle.store_undo.specs.UndoRecords.{undo_text, version_due, snapshot_text, TakesBack}
+use Rattle.store_undo.specs.UndoRecords.{undo_text, version_due, undo_snapshot_text, TakesBack}
 use Rattle.store_undo.specs.declared.making.MakingFault.{MakingFault}
 use Rattle.store_undo.specs.declared.making.MakingFault.TheVariants.{Refused, NoMemory}
 use Rattle.store_undo.specs.declared.making.Making.{Making}
@@ -58,7 +58,7 @@ pub record IsMade (count : ℕ) (held : List (List ℕ)) (made : Making) : Type 
   pub u : Undoing
   pub is : undoing count held ≡ Some u
   pub version : made.version ≡ version_due u.now.version
-  pub snapshot : made.texts.payload ≡ snapshot_text u
+  pub snapshot : made.texts.payload ≡ undo_snapshot_text u
   pub lines : made.texts.lines ≡ undo_text u
   pub takes_back : TakesBack held u
 

@@ -1,5 +1,5 @@
 -- The whole command `undo`: what it comes to, and what a crash leaves of it.
--- Read it from the end: `IsUntouched`, `IsSafeUndo`, `UndoesCall`, then `IsImage`.
+-- Read it from the end: `IsUntouched`, `IsSafeUndo`, `UndoesCall`, then `IsUndoneImage`.
 use Rattle.std.specs.Prelude.{◌≡◌, ◌⊎◌, ℕ, List, [], ◌++◌, option_to_list, Ok, IfSome}
 use Rattle.lens_io.specs.Calls.{Gave}
 use Rattle.lens_io.specs.DiskRuns.{LeavesOnly}
@@ -28,8 +28,8 @@ pub record HoldsUndone (held : List (List ℕ)) (u : Undoing) (image : List ℕ)
   pub takes_back : TakesBack held u
 
 -- the image is one of these two
-abbrev pub IsImage : List (List ℕ) → Undoing → List ℕ → Type 0
-IsImage held u image = HoldsNow held u image ⊎ HoldsUndone held u image
+abbrev pub IsUndoneImage : List (List ℕ) → Undoing → List ℕ → Type 0
+IsUndoneImage held u image = HoldsNow held u image ⊎ HoldsUndone held u image
 
 -- ---- the call
 
@@ -52,5 +52,5 @@ module _ {D : Type 0} (disk : OfDisk.Ghosts D) (old new : D) where
   -- An image that a crash now may leave represents the triple from before the call, or with the snapshot for the one
   -- before the last changes. An image of a moment since the start of the call is one of those, or was possible then.
   pub record IsSafeUndo (before : List (List ℕ)) (u : Undoing) : Type 0 where
-    pub now : (c : List ℕ) → disk.images new c → IsImage before u c
-    pub moments : LeavesOnly disk old new (λ c. disk.images old c ⊎ IsImage before u c)
+    pub now : (c : List ℕ) → disk.images new c → IsUndoneImage before u c
+    pub moments : LeavesOnly disk old new (λ c. disk.images old c ⊎ IsUndoneImage before u c)

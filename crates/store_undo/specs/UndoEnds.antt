@@ -9,7 +9,7 @@ use Rattle.store_run.specs.Refusals.{IsOpening, FailsUnopened}
 use Rattle.store_run.specs.StoreEnds.{StoreEnds}
 use Rattle.command_ends.specs.declared.status.Status.{Status}
 use Rattle.store_undo.specs.Undoing.{Undoing}
-use Rattle.store_undo.specs.UndoRecords.{undo_text, version_due, snapshot_text, TakesBack}
+use Rattle.store_undo.specs.UndoRecords.{undo_text, version_due, undo_snapshot_text, TakesBack}
 
 -- A sink and a disk, before the call and after it.
 module _ {K D : Type 0} (sink : OfSink.Ghosts K) (disk : OfDisk.Ghosts D) (old new : K × D) where
@@ -23,7 +23,7 @@ module _ {K D : Type 0} (sink : OfSink.Ghosts K) (disk : OfDisk.Ghosts D) (old n
     pub stands : StandsOn disk d1 log before
     pub takes_back : TakesBack before u
     pub ends : StoreEnds sink disk (old.0, d1, log) (new.0, new.1, log')
-        (undo_text u) (option_to_list (version_due u.now.version)) (snapshot_text u) status
+        (undo_text u) (option_to_list (version_due u.now.version)) (undo_snapshot_text u) status
 
   -- The call failed before anything was written.
   pub record EndsUnwritten (before : List (List ℕ)) (status : Status) : Type 0 where

@@ -34,12 +34,12 @@ abbrev pub version_then : ℕ → ℕ
 version_then version = if nat_eq version 1 then 2 else version
 
 -- the snapshot of the triple before the last changes
-abbrev pub snapshot_text : Undoing → List ℕ
-snapshot_text u = states.snapshot_text (state_with u.now.form u.before)
+abbrev pub undo_snapshot_text : Undoing → List ℕ
+undo_snapshot_text u = states.snapshot_text (state_with u.now.form u.before)
 
 -- the version record, if it is still to be stored, and the snapshot
 abbrev pub new_records : Undoing → List (List ℕ)
-new_records u = option_to_list (version_due u.now.version) ++ snapshot_text u ∷ []
+new_records u = option_to_list (version_due u.now.version) ++ undo_snapshot_text u ∷ []
 
 -- ---- what they are worth
 

@@ -1,5 +1,5 @@
 //! The command `undo`, from its first call of the disk on.
-ghost use Rattle.command_ends.specs.Statuses.{IsAmong, quiet_statuses};
+ghost use Rattle.command_ends.specs.Statuses.{IsStatusAmong, quiet_statuses};
 ghost use Rattle.std.specs.Prelude.{◌≡◌, ◌⊎◌, List, ℕ, Some, option_to_list};
 ghost use Rattle.lens_io.specs.Calls.{SinkFailed, DiskFailed};
 ghost use Rattle.store_run.specs.Effects.{StandsOn};
@@ -12,7 +12,7 @@ ghost use Rattle.store_undo.specs.UndoCauses.{UndoHasNoRoom, IsUndoCause};
 ghost use Rattle.store_undo.specs.UndoEnds.{UndoEnds};
 ghost use Rattle.store_undo.specs.UndoStores.{StoreToUndo, RefusedToUndo};
 ghost use Rattle.store_undo.specs.Undoing.{Undoing, undoing, undo_refusal};
-ghost use Rattle.store_undo.specs.UndoRecords.{version_due, snapshot_text, undo_text};
+ghost use Rattle.store_undo.specs.UndoRecords.{version_due, undo_snapshot_text, undo_text};
 
 use crate::making::{MakingFault, make};
 use command_ends::Status;
@@ -54,7 +54,7 @@ pub fn undo<K: Sink, D: Disk>(alloc: Global, count: u64, sink: &mut K, disk: &mu
     ensures exits { (store : StoreToUndo D.Disk count disk.old)
         → StoresBehind K.Sink D.Disk (sink.old, disk.old) (sink.new, disk.new)
         (λ d1 _. IsOpening D.Disk disk.old d1) store.payloads (undo_text store.undone)
-        (option_to_list (version_due store.undone.now.version)) (snapshot_text store.undone) result
+        (option_to_list (version_due store.undone.now.version)) (undo_snapshot_text store.undone) result
         ⊎ IsUnwritten D.Disk disk.old disk.new
         × FailsUnopened K.Sink D.Disk (sink.old, disk.old) (sink.new, disk.new) result }
     ensures unstored { (store : StoreToUndo D.Disk count disk.old)
@@ -70,7 +70,7 @@ pub fn undo<K: Sink, D: Disk>(alloc: Global, count: u64, sink: &mut K, disk: &mu
     ensures refused { (other : RefusedToUndo D.Disk count disk.old)
         → IsUnwritten D.Disk disk.old disk.new
         × EndsRefused K.Sink D.Disk (sink.old, disk.old) (sink.new, disk.new) other.reason result }
-    ensures statuses { IsAmong quiet_statuses result }
+    ensures statuses { IsStatusAmong quiet_statuses result }
     ensures sink_fault { result ≡ Status.SinkFault → SinkFailed K.Sink sink.old sink.new }
     ensures disk_fault { result ≡ Status.DiskFault → DiskFailed D.Disk disk.old disk.new }
 {
@@ -99,7 +99,7 @@ fn undo_payloads<K: Sink, D: Disk>(
     ensures refused { (refusal : StoreRefusal) → undo_refusal count payloads ≡ Some refusal
         → IsUnwritten D.Disk disk.old disk.new
         × EndsRefused K.Sink D.Disk (sink.old, disk.old) (sink.new, disk.new) refusal result }
-    ensures statuses { IsAmong quiet_statuses result }
+    ensures statuses { IsStatusAmong quiet_statuses result }
     ensures sink_fault { result ≡ Status.SinkFault → SinkFailed K.Sink sink.old sink.new }
     ensures disk_fault { result ≡ Status.DiskFault → DiskFailed D.Disk disk.old disk.new }
 {

@@ -1,6 +1,7 @@
 //! Runs of characters: what two texts have in common, and what one of them alone has.
 ghost use Rattle.std.specs.Prelude.{◌≡◌, ◌≤◌, ◌∷◌, [], IfOk};
-ghost use Rattle.text_bridges.specs.Runs.{size_at, of_size, less_by, is_empty_run, is_kept_run, is_added_run, joined_run, one_or_both};
+ghost use Rattle.text_bridges.specs.Runs.{size_at, of_size, less_by, is_empty_run, is_kept_run, is_added_run};
+ghost use Rattle.text_bridges.specs.Runs.{joined_run, one_or_both};
 
 use std::alloc::AllocError;
 

@@ -17,7 +17,7 @@ use Rattle.edit_module.specs.declared.entry.Entry.{Entry}
 use Rattle.edit_module.specs.Views.{word_tree, entry_tree}
 use Rattle.turn_link.specs.declared.batch.Packet.{Packet}
 use Rattle.turn_link.specs.Views.{batch_tree, packet_tree, told_of}
-use Rattle.turn_link.specs.Turns.{BatchTree, is_turn, Refusal, not_turn, unfit, no_batch, IsRefusal}
+use Rattle.turn_link.specs.Turns.{BatchTree, is_turn, TurnRefusal, not_turn, unfit, no_batch, IsTurnRefusal}
 use Rattle.turn_link.specs.Sites.{LeftTree, RightTree, drafted, joining, edited, left_drafted, right_drafted, left_start, right_start, left_edit, right_edit, left_seal, right_seal, left_receive, right_receive, left_restart, right_restart}
 use Rattle.turn_link.specs.Links.{EventTree, edit, seal, send, deliver, restart, LinkTree, ToldTree, told_draft, sealed, packet, taken, stale, restarted, PacketTree, last_batch, left_of, right_of, happens}
 use Rattle.turn_link.specs.Laws.{AreSites}
@@ -74,10 +74,10 @@ module _ (holds : DocTree → CompTree → DocTree → Type 0) (left : TyTree) (
         let e = edits_right holds left right start carried (link_of made l r ps) l r k.sites w r' (subst (λ t. right_edit t r w ≡ Ok r') k.typed is) in
         calls ty (link_of made l r ps) (edit Right w) told_draft _ l r' k.typed e.happened e.sites
 
-    pub refuse-edit_left : (w : WordTree) (why : Refusal) → left_edit left l w ≡ Err why → happens left right start carried (link_of made l r ps) (edit Left w) ≡ Some (Err why)
+    pub refuse-edit_left : (w : WordTree) (why : TurnRefusal) → left_edit left l w ≡ Err why → happens left right start carried (link_of made l r ps) (edit Left w) ≡ Some (Err why)
     refuse-edit_left w why is = refuses_edit_left holds left right start carried (link_of made l r ps) l r k.sites w why is
 
-    pub refuse-edit_right : (w : WordTree) (why : Refusal) → right_edit ty r w ≡ Err why → happens left right start carried (link_of made l r ps) (edit Right w) ≡ Some (Err why)
+    pub refuse-edit_right : (w : WordTree) (why : TurnRefusal) → right_edit ty r w ≡ Err why → happens left right start carried (link_of made l r ps) (edit Right w) ≡ Some (Err why)
     refuse-edit_right w why is = refuses_edit_right holds left right start carried (link_of made l r ps) l r k.sites w why (subst (λ t. right_edit t r w ≡ Err why) k.typed is)
 
     pub call-restart_left : (l' : LeftTree) → l' ≡ left_restart l → Calls ty (link_of made l r ps) (restart Left) restarted (link_of made l' r ps) l' r
@@ -125,10 +125,10 @@ module _ (holds : DocTree → CompTree → DocTree → Type 0) (left : TyTree) (
         let e = receives_right holds left right start carried (link_of made l r ps) l r k.sites p b is r' Stale (subst (λ t. right_receive t r b ≡ Ok (r', Stale)) k.typed made_it) in
         calls ty (link_of made l r ps) (deliver p) (stale b.number) _ l r' k.typed e.happened e.sites
 
-    pub never-deliver_left : (p : ℕ) (b : BatchTree) → slice_get ps p ≡ Some (record { to = Left; batch = b }) → (why : Refusal) → left_receive left carried l b ≡ Err why → ⊥
+    pub never-deliver_left : (p : ℕ) (b : BatchTree) → slice_get ps p ≡ Some (record { to = Left; batch = b }) → (why : TurnRefusal) → left_receive left carried l b ≡ Err why → ⊥
     never-deliver_left p b is why made_it = never_refused_left holds left right start carried (link_of made l r ps) l r k.sites p b is why made_it
 
-    pub never-deliver_right : (p : ℕ) (b : BatchTree) → slice_get ps p ≡ Some (record { to = Right; batch = b }) → (why : Refusal) → right_receive ty r b ≡ Err why → ⊥
+    pub never-deliver_right : (p : ℕ) (b : BatchTree) → slice_get ps p ≡ Some (record { to = Right; batch = b }) → (why : TurnRefusal) → right_receive ty r b ≡ Err why → ⊥
     never-deliver_right p b is why made_it = never_refused_right holds left right start carried (link_of made l r ps) l r k.sites p b is why (subst (λ t. right_receive t r b ≡ Err why) k.typed made_it)
 
     module _ (from_left : WordsCarry holds left right Left (carried Left)) (from_right : WordsCarry holds right left Right (carried Right)) where
@@ -144,13 +144,13 @@ module _ (holds : DocTree → CompTree → DocTree → Type 0) (left : TyTree) (
           let e = seals_right_site holds left right start carried from_left from_right (link_of made l r ps) l r k.sites r' b (subst (λ t. right_seal t r ≡ Ok (r', b)) k.typed is) in
           calls ty (link_of made l r ps) (seal Right) (sealed b) _ l r' k.typed e.happened e.sites
 
-      pub refuse-seal_left : (why : Refusal) → left_seal left carried l ≡ Err why → happens left right start carried (link_of made l r ps) (seal Left) ≡ Some (Err why)
+      pub refuse-seal_left : (why : TurnRefusal) → left_seal left carried l ≡ Err why → happens left right start carried (link_of made l r ps) (seal Left) ≡ Some (Err why)
       refuse-seal_left why is = refuses_seal_left holds left right start carried from_left from_right (link_of made l r ps) l r k.sites why is
 
       pub never-unfit : left_seal left carried l ≡ Err unfit → ⊥
       never-unfit is = no_unfit holds left right start carried from_left from_right (link_of made l r ps) (refuse-seal_left unfit is)
 
-    pub refuse-seal_right : (why : Refusal) → right_seal ty r ≡ Err why → happens left right start carried (link_of made l r ps) (seal Right) ≡ Some (Err why)
+    pub refuse-seal_right : (why : TurnRefusal) → right_seal ty r ≡ Err why → happens left right start carried (link_of made l r ps) (seal Right) ≡ Some (Err why)
     refuse-seal_right why is = refuses_seal_right holds left right start carried (link_of made l r ps) l r k.sites why (subst (λ t. right_seal t r ≡ Err why) k.typed is)
 
   -- ---- the start
@@ -199,7 +199,7 @@ addressed ps p to q address is =
     subst (λ side. slice_get ps p ≡ Some (record { to = side; batch = q.batch })) same is
 
 -- a call that is refused for no reason has run out of memory
-pub no_reason : {A : Type 0} (answer : Result A Refusal) (o : Option Refusal) → ((why : Refusal) → answer ≡ Err why → ⊥) → IsRefusal answer o → o ≡ None
+pub no_reason : {A : Type 0} (answer : Result A TurnRefusal) (o : Option TurnRefusal) → ((why : TurnRefusal) → answer ≡ Err why → ⊥) → IsTurnRefusal answer o → o ≡ None
 no_reason answer None never is = refl
 no_reason answer (Some why) never is = absurd (never why is)
 
@@ -215,11 +215,11 @@ edited-fits side ty n doc draft w is =
       | false ↦ λ is. cc
     ] is
 
-left-fits : (s : LeftTree) (o : Result WordTree Refusal) → (o ≡ Err unfit → ⊥) → left_drafted s o ≡ Err unfit → ⊥
+left-fits : (s : LeftTree) (o : Result WordTree TurnRefusal) → (o ≡ Err unfit → ⊥) → left_drafted s o ≡ Err unfit → ⊥
 left-fits s (Ok w) fits is = cc
 left-fits s (Err why) fits is = let same : why ≡ unfit = cc in fits (ap (λ y. Err y) same)
 
-right-fits : (s : RightTree) (o : Result WordTree Refusal) → (o ≡ Err unfit → ⊥) → right_drafted s o ≡ Err unfit → ⊥
+right-fits : (s : RightTree) (o : Result WordTree TurnRefusal) → (o ≡ Err unfit → ⊥) → right_drafted s o ≡ Err unfit → ⊥
 right-fits s (Ok w) fits is = cc
 right-fits s (Err why) fits is = let same : why ≡ unfit = cc in fits (ap (λ y. Err y) same)
 
@@ -231,10 +231,10 @@ edit_fits-right ty s w is = right-fits s (edited Right ty s.number s.doc s.draft
 
 module _ (holds : DocTree → CompTree → DocTree → Type 0) (left : TyTree) (right : TyTree) (start : CompTree) (carried : Side → CompTree → WordTree → Option Translated)
     (ty : TyTree) (made : List (Side × WordTree)) (l : LeftTree) (r : RightTree) (ps : List PacketTree) (k : IsLink holds left right start carried ty (link_of made l r ps) l r) where
-  pub refusals-edit_left : (w : WordTree) (o : Option Refusal) → IsRefusal (left_edit left l w) o → IsLinkRefusal (happens left right start carried (link_of made l r ps) (edit Left w)) o
+  pub refusals-edit_left : (w : WordTree) (o : Option TurnRefusal) → IsTurnRefusal (left_edit left l w) o → IsLinkRefusal (happens left right start carried (link_of made l r ps) (edit Left w)) o
   refusals-edit_left w None is = tt
   refusals-edit_left w (Some why) is = refuse-edit_left holds left right start carried ty made l r ps k w why is
 
-  pub refusals-edit_right : (w : WordTree) (o : Option Refusal) → IsRefusal (right_edit ty r w) o → IsLinkRefusal (happens left right start carried (link_of made l r ps) (edit Right w)) o
+  pub refusals-edit_right : (w : WordTree) (o : Option TurnRefusal) → IsTurnRefusal (right_edit ty r w) o → IsLinkRefusal (happens left right start carried (link_of made l r ps) (edit Right w)) o
   refusals-edit_right w None is = tt
   refusals-edit_right w (Some why) is = refuse-edit_right holds left right start carried ty made l r ps k w why is

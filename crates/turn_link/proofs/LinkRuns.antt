@@ -11,7 +11,7 @@ use Rattle.lens_core.specs.Translation.{Translated}
 use Rattle.lens_core.specs.Laws.{WordsCarry, StartTogether}
 use Rattle.edit_session.specs.Step.{first}
 use Rattle.turn_link.specs.declared.fault.Received.TheVariants.{Taken, Stale}
-use Rattle.turn_link.specs.Turns.{BatchTree, is_turn, Refusal, not_turn, last_number, unfit, no_packet}
+use Rattle.turn_link.specs.Turns.{BatchTree, is_turn, TurnRefusal, not_turn, last_number, unfit, no_packet}
 use Rattle.turn_link.specs.Sites.{LeftTree, RightTree, left_start, right_start, left_edit, right_edit, left_seal, right_seal}
 use Rattle.turn_link.specs.Links.{EventTree, edit, seal, send, deliver, restart, LinkTree, ToldTree, sealed, PacketTree, link_start, number_on, with_entry, batch_at, last_batch, left_of, right_of, naming, happens, link_after, after_events}
 use Rattle.turn_link.specs.Laws.{IsLinked, AreSites}
@@ -65,15 +65,15 @@ module _ (holds : DocTree → CompTree → DocTree → Type 0) (left : TyTree) (
   -- ---- an event
 
   record Goes (s : LinkTree) (e : EventTree) : Type 0 where
-    answer : Result (LinkTree × ToldTree) Refusal
+    answer : Result (LinkTree × ToldTree) TurnRefusal
     happened : happens left right start carried s e ≡ Some answer
     linked : Linked (link_after s answer)
 
-  goes-edit_left : (s : LinkTree) (k : Linked s) (w : WordTree) (l : LeftTree) (r : RightTree) → Sites s l r → (o : Result LeftTree Refusal) → left_edit left l w ≡ o → Goes s (edit Left w)
+  goes-edit_left : (s : LinkTree) (k : Linked s) (w : WordTree) (l : LeftTree) (r : RightTree) → Sites s l r → (o : Result LeftTree TurnRefusal) → left_edit left l w ≡ o → Goes s (edit Left w)
   goes-edit_left s k w l r a (Ok l') is = let e = edits_left holds left right start carried s l r a w l' is in record { answer = _; happened = e.happened; linked = e.sites.linked }
   goes-edit_left s k w l r a (Err why) is = record { answer = Err why; happened = refuses_edit_left holds left right start carried s l r a w why is; linked = k }
 
-  goes-edit_right : (s : LinkTree) (k : Linked s) (w : WordTree) (l : LeftTree) (r : RightTree) → Sites s l r → (o : Result RightTree Refusal) → right_edit right r w ≡ o → Goes s (edit Right w)
+  goes-edit_right : (s : LinkTree) (k : Linked s) (w : WordTree) (l : LeftTree) (r : RightTree) → Sites s l r → (o : Result RightTree TurnRefusal) → right_edit right r w ≡ o → Goes s (edit Right w)
   goes-edit_right s k w l r a (Ok r') is = let e = edits_right holds left right start carried s l r a w r' is in record { answer = _; happened = e.happened; linked = e.sites.linked }
   goes-edit_right s k w l r a (Err why) is = record { answer = Err why; happened = refuses_edit_right holds left right start carried s l r a w why is; linked = k }
 
@@ -126,11 +126,11 @@ module _ (holds : DocTree → CompTree → DocTree → Type 0) (left : TyTree) (
       ] refl
 
   module _ (from_left : WordsCarry holds left right Left (carried Left)) (from_right : WordsCarry holds right left Right (carried Right)) where
-    goes-seal_left : (s : LinkTree) (k : Linked s) (l : LeftTree) (r : RightTree) → Sites s l r → (o : Result (LeftTree × BatchTree) Refusal) → left_seal left carried l ≡ o → Goes s (seal Left)
+    goes-seal_left : (s : LinkTree) (k : Linked s) (l : LeftTree) (r : RightTree) → Sites s l r → (o : Result (LeftTree × BatchTree) TurnRefusal) → left_seal left carried l ≡ o → Goes s (seal Left)
     goes-seal_left s k l r a (Ok v) is = let e = seals_left_site holds left right start carried from_left from_right s l r a v.0 v.1 is in record { answer = _; happened = e.happened; linked = e.sites.linked }
     goes-seal_left s k l r a (Err why) is = record { answer = Err why; happened = refuses_seal_left holds left right start carried from_left from_right s l r a why is; linked = k }
 
-    goes-seal_right : (s : LinkTree) (k : Linked s) (l : LeftTree) (r : RightTree) → Sites s l r → (o : Result (RightTree × BatchTree) Refusal) → right_seal right r ≡ o → Goes s (seal Right)
+    goes-seal_right : (s : LinkTree) (k : Linked s) (l : LeftTree) (r : RightTree) → Sites s l r → (o : Result (RightTree × BatchTree) TurnRefusal) → right_seal right r ≡ o → Goes s (seal Right)
     goes-seal_right s k l r a (Ok v) is = let e = seals_right_site holds left right start carried from_left from_right s l r a v.0 v.1 is in record { answer = _; happened = e.happened; linked = e.sites.linked }
     goes-seal_right s k l r a (Err why) is = record { answer = Err why; happened = refuses_seal_right holds left right start carried s l r a why is; linked = k }
 
@@ -146,7 +146,7 @@ module _ (holds : DocTree → CompTree → DocTree → Type 0) (left : TyTree) (
 
     -- every event happens to a link that has its parts together, or is refused, and keeps them together
     pub goes_on : (s : LinkTree) → Linked s → (e : EventTree)
-        → (answer : Result (LinkTree × ToldTree) Refusal) × (happens left right start carried s e ≡ Some answer) × Linked (link_after s answer)
+        → (answer : Result (LinkTree × ToldTree) TurnRefusal) × (happens left right start carried s e ≡ Some answer) × Linked (link_after s answer)
     goes_on s k e = let g = goes s k e in (g.answer, g.happened, g.linked)
 
     -- a list of events

@@ -14,7 +14,7 @@ use Rattle.lens_core.specs.Laws.{WordsCarry}
 use Rattle.edit_session.specs.Step.{TripleTree}
 use Rattle.turn_link.specs.declared.fault.Received.{Received}
 use Rattle.turn_link.specs.declared.fault.Received.TheVariants.{Taken, Stale}
-use Rattle.turn_link.specs.Turns.{BatchTree, is_turn, last_made, Refusal, not_turn, last_number, no_batch}
+use Rattle.turn_link.specs.Turns.{BatchTree, is_turn, last_made, TurnRefusal, not_turn, last_number, no_batch}
 use Rattle.turn_link.specs.Sites.{LeftTree, RightTree, drafted, joining, edited, left_drafted, right_drafted, left_edit, right_edit, next_batch, sealing, left_sealed, right_sealed, left_seal, right_seal, left_receive, right_receive, left_restart, right_restart}
 use Rattle.turn_link.specs.Links.{LinkTree, ToldTree, edit, seal, send, deliver, told_draft, sealed, packet, taken, stale, number_on, with_entry, with_number, with_draft, with_packet, triple_at, batch_word, batch_at, last_batch, left_of, right_of, left_site, right_site, happens}
 use Rattle.turn_link.specs.Laws.{IsDraft, IsLinked, AreSites}
@@ -34,12 +34,12 @@ apart : {A E : Type 0} {o : Result A E} {v : A} {e : E} → o ≡ Ok v → o ≡
 apart p q = cc
 
 -- a site that may seal
-record MaySeal {A : Type 0} (side : Side) (n : ℕ) (answer : Result A Refusal) (v : A) : Type 0 where
+record MaySeal {A : Type 0} (side : Side) (n : ℕ) (answer : Result A TurnRefusal) (v : A) : Type 0 where
   on : is_turn side n ≡ true
   more : nat_eq n (2 ^ 64 - 1) ≡ false
   answers : answer ≡ Ok v
 
-may_seal : {A : Type 0} (side : Side) (n : ℕ) (answer : Result A Refusal) (v : A) → sealing side n answer ≡ Ok v → MaySeal side n answer v
+may_seal : {A : Type 0} (side : Side) (n : ℕ) (answer : Result A TurnRefusal) (v : A) → sealing side n answer ≡ Ok v → MaySeal side n answer v
 may_seal side n answer v is =
     elim (is_turn side n) as (λ b. is_turn side n ≡ b → (if b then (if nat_eq n (2 ^ 64 - 1) then Err last_number else answer) else Err (not_turn n)) ≡ Ok v → MaySeal side n answer v) [
       | true ↦ λ on. elim (nat_eq n (2 ^ 64 - 1)) as (λ b. nat_eq n (2 ^ 64 - 1) ≡ b → (if b then Err last_number else answer) ≡ Ok v → MaySeal side n answer v) [
@@ -79,7 +79,7 @@ module _ (holds : DocTree → CompTree → DocTree → Type 0) (left : TyTree) (
   abbrev Linked : LinkTree → Type 0
   Linked = IsLinked holds left right start carried
 
-  abbrev Gives : LinkTree → Result (LinkTree × ToldTree) Refusal → Option (Result (LinkTree × ToldTree) Refusal) → Type 0
+  abbrev Gives : LinkTree → Result (LinkTree × ToldTree) TurnRefusal → Option (Result (LinkTree × ToldTree) TurnRefusal) → Type 0
   Gives s r o = o ≡ Some r
 
   left_is_of : (s : LinkTree) (l : LeftTree) (k : Linked s) → left_site left right start carried s ≡ Some l
@@ -117,7 +117,7 @@ module _ (holds : DocTree → CompTree → DocTree → Type 0) (left : TyTree) (
         };
       }
 
-  left_drafted_ok : (s : LinkTree) (k : Linked s) (r : RightTree) → right_site left right start carried s ≡ Some r → (w : WordTree) (l' : LeftTree) (answer : Result WordTree Refusal)
+  left_drafted_ok : (s : LinkTree) (k : Linked s) (r : RightTree) → right_site left right start carried s ≡ Some r → (w : WordTree) (l' : LeftTree) (answer : Result WordTree TurnRefusal)
       → edited Left left s.left_number k.left_draft.triple.left s.left_draft w ≡ answer
       → left_drafted (left_of left right start carried s k.left_draft.triple) answer ≡ Ok l' → EditsLeft s w l' r
   left_drafted_ok s k r right_is w l' (Ok d) is made =
@@ -130,7 +130,7 @@ module _ (holds : DocTree → CompTree → DocTree → Type 0) (left : TyTree) (
       left_drafted_ok s a.linked r a.right_is w l' (edited Left left s.left_number a.linked.left_draft.triple.left s.left_draft w) refl
       (subst (λ l. left_edit left l w ≡ Ok l') (sym (left_is_of s l a.linked a.left_is)) made)
 
-  left_drafted_err : (s : LinkTree) (k : Linked s) (w : WordTree) (why : Refusal) (answer : Result WordTree Refusal)
+  left_drafted_err : (s : LinkTree) (k : Linked s) (w : WordTree) (why : TurnRefusal) (answer : Result WordTree TurnRefusal)
       → edited Left left s.left_number k.left_draft.triple.left s.left_draft w ≡ answer
       → left_drafted (left_of left right start carried s k.left_draft.triple) answer ≡ Err why → happens left right start carried s (edit Left w) ≡ Some (Err why)
   left_drafted_err s k w why (Ok d) is made = absurd cc
@@ -139,7 +139,7 @@ module _ (holds : DocTree → CompTree → DocTree → Type 0) (left : TyTree) (
       let same : cause ≡ why = cc in
       rw (at, is, same) refl
 
-  pub refuses_edit_left : (s : LinkTree) (l : LeftTree) (r : RightTree) → Sites s l r → (w : WordTree) (why : Refusal) → left_edit left l w ≡ Err why
+  pub refuses_edit_left : (s : LinkTree) (l : LeftTree) (r : RightTree) → Sites s l r → (w : WordTree) (why : TurnRefusal) → left_edit left l w ≡ Err why
       → happens left right start carried s (edit Left w) ≡ Some (Err why)
   refuses_edit_left s l r a w why made =
       left_drafted_err s a.linked w why (edited Left left s.left_number a.linked.left_draft.triple.left s.left_draft w) refl
@@ -166,7 +166,7 @@ module _ (holds : DocTree → CompTree → DocTree → Type 0) (left : TyTree) (
         };
       }
 
-  right_drafted_ok : (s : LinkTree) (k : Linked s) (l : LeftTree) → left_site left right start carried s ≡ Some l → (w : WordTree) (r' : RightTree) (answer : Result WordTree Refusal)
+  right_drafted_ok : (s : LinkTree) (k : Linked s) (l : LeftTree) → left_site left right start carried s ≡ Some l → (w : WordTree) (r' : RightTree) (answer : Result WordTree TurnRefusal)
       → edited Right right s.right_number k.right_draft.triple.right s.right_draft w ≡ answer
       → right_drafted (right_of left right start carried s k.right_draft.triple) answer ≡ Ok r' → EditsRight s w l r'
   right_drafted_ok s k l left_is w r' (Ok d) is made =
@@ -179,7 +179,7 @@ module _ (holds : DocTree → CompTree → DocTree → Type 0) (left : TyTree) (
       right_drafted_ok s a.linked l a.left_is w r' (edited Right right s.right_number a.linked.right_draft.triple.right s.right_draft w) refl
       (subst (λ r. right_edit right r w ≡ Ok r') (sym (right_is_of s r a.linked a.right_is)) made)
 
-  right_drafted_err : (s : LinkTree) (k : Linked s) (w : WordTree) (why : Refusal) (answer : Result WordTree Refusal)
+  right_drafted_err : (s : LinkTree) (k : Linked s) (w : WordTree) (why : TurnRefusal) (answer : Result WordTree TurnRefusal)
       → edited Right right s.right_number k.right_draft.triple.right s.right_draft w ≡ answer
       → right_drafted (right_of left right start carried s k.right_draft.triple) answer ≡ Err why → happens left right start carried s (edit Right w) ≡ Some (Err why)
   right_drafted_err s k w why (Ok d) is made = absurd cc
@@ -188,7 +188,7 @@ module _ (holds : DocTree → CompTree → DocTree → Type 0) (left : TyTree) (
       let same : cause ≡ why = cc in
       rw (at, is, same) refl
 
-  pub refuses_edit_right : (s : LinkTree) (l : LeftTree) (r : RightTree) → Sites s l r → (w : WordTree) (why : Refusal) → right_edit right r w ≡ Err why
+  pub refuses_edit_right : (s : LinkTree) (l : LeftTree) (r : RightTree) → Sites s l r → (w : WordTree) (why : TurnRefusal) → right_edit right r w ≡ Err why
       → happens left right start carried s (edit Right w) ≡ Some (Err why)
   refuses_edit_right s l r a w why made =
       right_drafted_err s a.linked w why (edited Right right s.right_number a.linked.right_draft.triple.right s.right_draft w) refl
@@ -332,7 +332,7 @@ module _ (holds : DocTree → CompTree → DocTree → Type 0) (left : TyTree) (
         let both = same_pair is m.answers in
         subst (λ b. SealsLeftSite s l' b r) both.1 (subst (λ l. SealsLeftSite s l (next_batch s.left_number q.carried_to.0) r) both.0 (seals_left-of s k r a.right_is m.on m.more q))
 
-    pub refuses_seal_left : (s : LinkTree) (l : LeftTree) (r : RightTree) → Sites s l r → (why : Refusal) → left_seal left carried l ≡ Err why
+    pub refuses_seal_left : (s : LinkTree) (l : LeftTree) (r : RightTree) → Sites s l r → (why : TurnRefusal) → left_seal left carried l ≡ Err why
         → happens left right start carried s (seal Left) ≡ Some (Err why)
     refuses_seal_left s l r a why made =
         let k = a.linked in
@@ -384,7 +384,7 @@ module _ (holds : DocTree → CompTree → DocTree → Type 0) (left : TyTree) (
         let both = same_pair_ok (sealed_right s k q) m.answers in
         subst (λ b. SealsRightSite s l r' b) both.1 (subst (λ r. SealsRightSite s l r (next_batch s.right_number s.right_draft)) both.0 (seals_right-of s k l a.left_is m.on m.more q))
 
-  pub refuses_seal_right : (s : LinkTree) (l : LeftTree) (r : RightTree) → Sites s l r → (why : Refusal) → right_seal right r ≡ Err why
+  pub refuses_seal_right : (s : LinkTree) (l : LeftTree) (r : RightTree) → Sites s l r → (why : TurnRefusal) → right_seal right r ≡ Err why
       → happens left right start carried s (seal Right) ≡ Some (Err why)
   refuses_seal_right s l r a why made =
       let k = a.linked in
@@ -528,7 +528,7 @@ module _ (holds : DocTree → CompTree → DocTree → Type 0) (left : TyTree) (
 
   -- and it is never refused
   pub never_refused_left : (s : LinkTree) (l : LeftTree) (r : RightTree) → Sites s l r → (p : ℕ) (b : BatchTree) → slice_get s.packets p ≡ Some (record { to = Left; batch = b })
-      → (why : Refusal) → left_receive left carried l b ≡ Err why → ⊥
+      → (why : TurnRefusal) → left_receive left carried l b ≡ Err why → ⊥
   never_refused_left s l r a p b is why made =
       let k = a.linked in
       let t = receives_left-of s k r a.right_is p b is in
@@ -537,7 +537,7 @@ module _ (holds : DocTree → CompTree → DocTree → Type 0) (left : TyTree) (
       apart accepted made'
 
   pub never_refused_right : (s : LinkTree) (l : LeftTree) (r : RightTree) → Sites s l r → (p : ℕ) (b : BatchTree) → slice_get s.packets p ≡ Some (record { to = Right; batch = b })
-      → (why : Refusal) → right_receive right r b ≡ Err why → ⊥
+      → (why : TurnRefusal) → right_receive right r b ≡ Err why → ⊥
   never_refused_right s l r a p b is why made =
       let k = a.linked in
       let t = receives_right-of s k l a.left_is p b is in

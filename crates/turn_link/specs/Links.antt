@@ -14,7 +14,7 @@ use Rattle.lens_core.specs.Translation.{Translated}
 use Rattle.edit_session.specs.Step.{TripleTree, first, document_on, Stepped, step}
 use Rattle.edit_module.specs.Changes.{one}
 use Rattle.edit_session.specs.Run.{Item, last, run}
-use Rattle.turn_link.specs.Turns.{BatchTree, is_even, is_turn, last_made, Refusal, not_turn, last_number, no_batch}
+use Rattle.turn_link.specs.Turns.{BatchTree, is_even, is_turn, last_made, TurnRefusal, not_turn, last_number, no_batch}
 use Rattle.turn_link.specs.Turns.{no_packet}
 use Rattle.turn_link.specs.Sites.{LeftTree, RightTree, edited}
 
@@ -86,12 +86,12 @@ abbrev pub with_packet : Side → BatchTree → LinkTree → LinkTree
 with_packet side b s = record s { packets = s.packets ++ record { to = other side; batch = b } ∷ [] }
 
 -- the answer to an edit, with the new draft
-abbrev pub drafting : Side → LinkTree → Result WordTree Refusal → Result (LinkTree × ToldTree) Refusal
+abbrev pub drafting : Side → LinkTree → Result WordTree TurnRefusal → Result (LinkTree × ToldTree) TurnRefusal
 drafting side s (Ok w) = Ok (with_draft side w s, told_draft)
 drafting side s (Err why) = Err why
 
 -- a packet is handed to its addressee
-abbrev pub delivered : LinkTree → Option PacketTree → Result (LinkTree × ToldTree) Refusal
+abbrev pub delivered : LinkTree → Option PacketTree → Result (LinkTree × ToldTree) TurnRefusal
 delivered s (Some q) =
     if nat_le q.batch.number (number_on q.to s)
     then Ok (s, stale q.batch.number)
@@ -109,7 +109,7 @@ word_of_step (Some (Err why)) = None
 word_of_step None = None
 
 -- the link after an event: a refused event leaves it as it was
-abbrev pub link_after : LinkTree → Result (LinkTree × ToldTree) Refusal → LinkTree
+abbrev pub link_after : LinkTree → Result (LinkTree × ToldTree) TurnRefusal → LinkTree
 link_after s (Ok r) = r.0
 link_after s (Err why) = s
 
@@ -169,12 +169,12 @@ module _ (left : TyTree) (right : TyTree) (start : CompTree) (carried : Side →
   right_site s = option_map (right_of s) (triple_at s.made s.right_number)
 
   -- the batch of a new entry is named
-  abbrev pub naming : Side → LinkTree → Option (Result (LinkTree × ToldTree) Refusal)
+  abbrev pub naming : Side → LinkTree → Option (Result (LinkTree × ToldTree) TurnRefusal)
   naming side s =
       option_map (λ b. Ok (with_entry side s, sealed b)) (batch_at (with_entry side s).made (number_on side s + 1))
 
   -- what an event makes of a link, and what is told of it; or why it is refused
-  abbrev pub happens : LinkTree → EventTree → Option (Result (LinkTree × ToldTree) Refusal)
+  abbrev pub happens : LinkTree → EventTree → Option (Result (LinkTree × ToldTree) TurnRefusal)
   happens s (edit side w) =
       option_map (λ x. drafting side s (edited side (near side left right) (number_on side s) x (draft_on side s) w))
       (shown side s)

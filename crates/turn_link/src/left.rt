@@ -11,7 +11,7 @@ ghost use Rattle.lens_core.specs.Complements.{comp_tree};
 ghost use Rattle.turn_link.specs.declared.fault.Received.TheVariants.{Taken};
 ghost use Rattle.turn_link.specs.LeftViews.{left_tree, after_tree, IsLeft};
 ghost use Rattle.turn_link.specs.Sites.{left_start, left_edit, left_seal, left_receive, left_taking, left_restart};
-ghost use Rattle.turn_link.specs.Turns.{is_turn, IsRefusal};
+ghost use Rattle.turn_link.specs.Turns.{is_turn, IsTurnRefusal};
 ghost use Rattle.turn_link.specs.Views.{batch_tree, site_refusal, receive_refusal};
 
 use crate::batch::Batch;
@@ -95,7 +95,7 @@ impl<L: EditLens> LeftSite<L> {
         ensures edits { MatchResult result
             (λ _. left_edit (L.left_type self.old.lens) (left_tree self.old.parts)
             (word_tree word.now) ≡ Ok (left_tree self.new.parts))
-            (λ fault. IsRefusal (left_edit (L.left_type self.old.lens) (left_tree self.old.parts)
+            (λ fault. IsTurnRefusal (left_edit (L.left_type self.old.lens) (left_tree self.old.parts)
             (word_tree word.now)) (site_refusal fault)) }
         ensures unchanged { OnErr result (left_tree self.new.parts ≡ left_tree self.old.parts) }
         ensures lens { self.new.lens ≡ self.old.lens }
@@ -119,7 +119,7 @@ impl<L: EditLens> LeftSite<L> {
         ensures seals { MatchResult result
             (λ batch. left_seal (L.left_type self.old.lens) (L.carried self.old.lens)
             (left_tree self.old.parts) ≡ Ok (left_tree self.new.parts, batch_tree batch))
-            (λ fault. IsRefusal (left_seal (L.left_type self.old.lens) (L.carried self.old.lens)
+            (λ fault. IsTurnRefusal (left_seal (L.left_type self.old.lens) (L.carried self.old.lens)
             (left_tree self.old.parts)) (site_refusal fault)) }
         ensures unchanged { OnErr result (self.new ≡ self.old) }
         ensures lens { self.new.lens ≡ self.old.lens }
@@ -143,7 +143,7 @@ impl<L: EditLens> LeftSite<L> {
             (λ answer. left_receive (L.left_type self.old.lens) (L.carried self.old.lens)
             (left_tree self.old.parts) (batch_tree batch.now) ≡ Ok
             (left_tree self.new.parts, answer))
-            (λ fault. IsRefusal (left_receive (L.left_type self.old.lens)
+            (λ fault. IsTurnRefusal (left_receive (L.left_type self.old.lens)
             (L.carried self.old.lens) (left_tree self.old.parts) (batch_tree batch.now))
             (receive_refusal fault)) }
         ensures unchanged { OnErr result (self.new ≡ self.old) }
@@ -260,7 +260,7 @@ fn edited<L: EditLens>(
         (λ d. (is_turn Left parts.now.number ≡ true) ×
         (act (L.left_type lens.now) (word_tree word.now) (after_tree parts.now) ≡ Ok
         (doc_tree d)))
-        (λ fault. IsRefusal (left_edit (L.left_type lens.now) (left_tree parts.now)
+        (λ fault. IsTurnRefusal (left_edit (L.left_type lens.now) (left_tree parts.now)
         (word_tree word.now)) (site_refusal fault)) }
     ensures typed { IfOk result (λ d. has (L.left_type lens.now) (doc_tree d) ≡ true) }
 {
@@ -286,7 +286,7 @@ fn sealed<L: EditLens>(
     ensures seals { MatchResult result
         (λ r. left_seal (L.left_type lens.now) (L.carried lens.now) (left_tree parts.now) ≡ Ok
         (left_tree r.0, batch_tree r.1))
-        (λ fault. IsRefusal (left_seal (L.left_type lens.now) (L.carried lens.now)
+        (λ fault. IsTurnRefusal (left_seal (L.left_type lens.now) (L.carried lens.now)
         (left_tree parts.now)) (site_refusal fault)) }
     ensures kept { IfOk result (λ r. IsLeft (L.left_type lens.now) r.0) }
 {
@@ -335,7 +335,7 @@ fn taken_over<L: EditLens>(
               (left_tree parts.now) { number = parts.now.number + 1; doc = doc_tree r.0; comp = comp_tree r.1 },
           Taken,
         ))
-        (λ fault. IsRefusal (left_taking (L.left_type lens.now) (left_tree parts.now)
+        (λ fault. IsTurnRefusal (left_taking (L.left_type lens.now) (left_tree parts.now)
         (L.carried lens.now Right (comp_tree parts.now.comp) (word_tree word.now)))
         (receive_refusal fault)) }
     ensures typed { IfOk result (λ r. has (L.left_type lens.now) (doc_tree r.0) ≡ true) }

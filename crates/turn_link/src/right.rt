@@ -12,7 +12,7 @@ ghost use Rattle.turn_link.specs.declared.fault.Received.TheVariants.{Taken};
 ghost use Rattle.turn_link.specs.RightViews.{right_tree, right_after, IsRight};
 ghost use Rattle.turn_link.specs.Sites.{right_start, right_edit, right_seal, right_receive, right_taking};
 ghost use Rattle.turn_link.specs.Sites.{right_restart};
-ghost use Rattle.turn_link.specs.Turns.{is_turn, IsRefusal};
+ghost use Rattle.turn_link.specs.Turns.{is_turn, IsTurnRefusal};
 ghost use Rattle.turn_link.specs.Views.{batch_tree, site_refusal, receive_refusal};
 
 use crate::batch::Batch;
@@ -99,7 +99,7 @@ impl RightSite {
         ensures edits { MatchResult result
             (λ _. right_edit (ty_tree self.old.ty) (right_tree self.old.parts)
             (word_tree word.now) ≡ Ok (right_tree self.new.parts))
-            (λ fault. IsRefusal (right_edit (ty_tree self.old.ty) (right_tree self.old.parts)
+            (λ fault. IsTurnRefusal (right_edit (ty_tree self.old.ty) (right_tree self.old.parts)
             (word_tree word.now)) (site_refusal fault)) }
         ensures unchanged { OnErr result (right_tree self.new.parts ≡ right_tree self.old.parts) }
         ensures ty { self.new.ty ≡ self.old.ty }
@@ -122,7 +122,7 @@ impl RightSite {
         ensures seals { MatchResult result
             (λ batch. right_seal (ty_tree self.old.ty) (right_tree self.old.parts) ≡ Ok
             (right_tree self.new.parts, batch_tree batch))
-            (λ fault. IsRefusal (right_seal (ty_tree self.old.ty) (right_tree self.old.parts))
+            (λ fault. IsTurnRefusal (right_seal (ty_tree self.old.ty) (right_tree self.old.parts))
             (site_refusal fault)) }
         ensures unchanged { OnErr result (self.new ≡ self.old) }
         ensures ty { self.new.ty ≡ self.old.ty }
@@ -144,7 +144,7 @@ impl RightSite {
         ensures receives { MatchResult result
             (λ answer. right_receive (ty_tree self.old.ty) (right_tree self.old.parts)
             (batch_tree batch.now) ≡ Ok (right_tree self.new.parts, answer))
-            (λ fault. IsRefusal (right_receive (ty_tree self.old.ty) (right_tree self.old.parts)
+            (λ fault. IsTurnRefusal (right_receive (ty_tree self.old.ty) (right_tree self.old.parts)
             (batch_tree batch.now)) (receive_refusal fault)) }
         ensures unchanged { OnErr result (self.new ≡ self.old) }
         ensures ty { self.new.ty ≡ self.old.ty }
@@ -222,7 +222,7 @@ fn edited(alloc: Global, ty: &Ty, parts: &RightParts, word: &Word) -> Result<Doc
     ensures edits { MatchResult result
         (λ d. (is_turn Right parts.now.number ≡ true) ×
         (act (ty_tree ty.now) (word_tree word.now) (right_after parts.now) ≡ Ok (doc_tree d)))
-        (λ fault. IsRefusal (right_edit (ty_tree ty.now) (right_tree parts.now)
+        (λ fault. IsTurnRefusal (right_edit (ty_tree ty.now) (right_tree parts.now)
         (word_tree word.now)) (site_refusal fault)) }
     ensures typed { IfOk result (λ d. has (ty_tree ty.now) (doc_tree d) ≡ true) }
 {
@@ -244,7 +244,7 @@ fn sealed(alloc: Global, ty: &Ty, parts: &RightParts) -> Result<(RightParts, Bat
     ensures seals { MatchResult result
         (λ r. right_seal (ty_tree ty.now) (right_tree parts.now) ≡ Ok
         (right_tree r.0, batch_tree r.1))
-        (λ fault. IsRefusal (right_seal (ty_tree ty.now) (right_tree parts.now))
+        (λ fault. IsTurnRefusal (right_seal (ty_tree ty.now) (right_tree parts.now))
         (site_refusal fault)) }
     ensures kept { IfOk result (λ r. IsRight (ty_tree ty.now) r.0) }
 {
@@ -284,7 +284,7 @@ fn taken_over(alloc: Global, ty: &Ty, parts: &RightParts, word: &Word) -> Result
               (right_tree parts.now) { number = parts.now.number + 1; doc = doc_tree d },
           Taken,
         ))
-        (λ fault. IsRefusal (right_taking (right_tree parts.now)
+        (λ fault. IsTurnRefusal (right_taking (right_tree parts.now)
         (act (ty_tree ty.now) (word_tree word.now) (doc_tree parts.now.doc)))
         (receive_refusal fault)) }
     ensures typed { IfOk result (λ d. has (ty_tree ty.now) (doc_tree d) ≡ true) }

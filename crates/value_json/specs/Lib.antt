@@ -2,3 +2,4 @@ pub mod Numbers
 pub mod Parts
 pub mod DocumentJson
 pub mod Reading
+pub mod SmallTrees

@@ -3,13 +3,13 @@
 use Rattle.std.specs.Prelude.{ℕ, ◌+◌, List, [], ◌∷◌, ◌++◌, Option, Some, option_map, option_and_then, Result, Ok, Err}
 use Rattle.edit_module.specs.Words.{WordTree}
 use Rattle.lens_core.specs.declared.lens.EditLens as OfLens
-use Rattle.view_hub.specs.Hubs.{ViewTree, HubTree, Place, CarriedTree, Refusal, lower, step, first_view}
+use Rattle.view_hub.specs.Hubs.{ViewTree, HubTree, Place, CarriedTree, ViewRefusal, lower, step, first_view}
 
 -- ---- a group
 
 -- why a group is refused: the number of its first edit that is refused, from 0, and why that edit is
 abbrev pub RefusedPart : Type 0
-RefusedPart = ℕ × Refusal
+RefusedPart = ℕ × ViewRefusal
 
 -- the hub after a group, and the words that acted in each of its edits; or why the group is refused
 abbrev pub GroupStepped : Type 0
@@ -21,7 +21,8 @@ with_words c (Ok s) = Ok (s.0, c ∷ s.1)
 with_words c (Err why) = Err (why.0 + 1, why.1)
 
 -- the first edit was accepted and the others go on from its hub, or it was refused and the group with it
-abbrev pub then_others : (HubTree → Option GroupStepped) → Result (HubTree × CarriedTree) Refusal → Option GroupStepped
+abbrev pub then_others : (HubTree → Option GroupStepped) → Result (HubTree × CarriedTree) ViewRefusal
+    → Option GroupStepped
 then_others others (Ok s) = option_map (with_words s.1) (others s.0)
 then_others others (Err why) = Some (Err (0, why))
 

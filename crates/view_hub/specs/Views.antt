@@ -20,7 +20,7 @@ use Rattle.view_hub.specs.declared.side.HubSide.TheVariants.{Hub, View}
 use Rattle.view_hub.specs.declared.view.HubParts.{HubParts}
 use Rattle.view_hub.specs.declared.view.View as a_view
 use Rattle.view_hub.specs.Groups.{GroupStepped}
-use Rattle.view_hub.specs.Hubs.{ViewTree, HubTree, Place, at_hub, at_view, CarriedTree, Refusal, no_view, no_apply}
+use Rattle.view_hub.specs.Hubs.{ViewTree, HubTree, Place, at_hub, at_view, CarriedTree, ViewRefusal, no_view, no_apply}
 use Rattle.view_hub.specs.Hubs.{step}
 
 -- the lenses and the parts of a hub
@@ -42,22 +42,22 @@ view_trees vs = map view_tree vs
 abbrev pub hub_tree : HubParts → HubTree
 hub_tree p = record { hub = doc_tree p.hub.value; views = view_trees p.views.items }
 
-abbrev pub place_of : HubSide → Place
-place_of Hub = at_hub
-place_of (View k) = at_view k
+abbrev pub place_of_side : HubSide → Place
+place_of_side Hub = at_hub
+place_of_side (View k) = at_view k
 
 -- an edit: the document that is edited, and the word
 abbrev pub edit_tree : HubSide × Word → Place × WordTree
-edit_tree e = (place_of e.0, word_tree e.1)
+edit_tree e = (place_of_side e.0, word_tree e.1)
 
 abbrev pub edit_trees : List (HubSide × Word) → List (Place × WordTree)
 edit_trees es = map edit_tree es
 
-abbrev pub carried_tree : HubCarried → CarriedTree
-carried_tree c = record { hub = word_tree c.hub; views = word_trees c.views }
+abbrev pub hub_carried_tree : HubCarried → CarriedTree
+hub_carried_tree c = record { hub = word_tree c.hub; views = word_trees c.views }
 
 -- a step is refused for the reason that the definition has; running out of memory says nothing
-abbrev pub IsHubRefusal : Option (Result (HubTree × CarriedTree) Refusal) → HubFault → Type 0
+abbrev pub IsHubRefusal : Option (Result (HubTree × CarriedTree) ViewRefusal) → HubFault → Type 0
 IsHubRefusal answer (NoView views) = answer ≡ Some (Err (no_view views))
 IsHubRefusal answer (NoApply at cause) = answer ≡ Some (Err (no_apply at cause))
 IsHubRefusal answer NoMemory = Unit {0}
@@ -70,7 +70,7 @@ IsGroupRefusal answer (of_groups.NoApply part at cause) = answer ≡ Some (Err (
 IsGroupRefusal answer of_groups.NoMemory = Unit {0}
 
 -- the edit with this number in a group is refused as the definition refuses it
-abbrev pub IsPartRefusal : ℕ → Option (Result (HubTree × CarriedTree) Refusal) → HubGroupFault → Type 0
+abbrev pub IsPartRefusal : ℕ → Option (Result (HubTree × CarriedTree) ViewRefusal) → HubGroupFault → Type 0
 IsPartRefusal number answer (of_groups.NoView part views) = (part ≡ number) × (answer ≡ Some (Err (no_view views)))
 IsPartRefusal number answer (of_groups.NoApply part at cause) =
     (part ≡ number) × (answer ≡ Some (Err (no_apply at cause)))
@@ -92,12 +92,12 @@ module _ {L : Type 0} (lens : OfLens.Ghosts L) where
   -- as there
   abbrev pub IsNextOutcome : List L → HubTree → Place × WordTree → Result (HubParts × HubCarried) HubFault → Type 0
   IsNextOutcome ls h e result =
-      MatchResult result (λ r. step lens ls h e ≡ Some (Ok (hub_tree r.0, carried_tree r.1)))
+      MatchResult result (λ r. step lens ls h e ≡ Some (Ok (hub_tree r.0, hub_carried_tree r.1)))
       (IsHubRefusal (step lens ls h e))
 
   -- a step returns the words of the definition and leaves the hub that it makes, or it is refused as there
   abbrev pub IsOutcome : HubOf L → Place × WordTree → HubOf L → Result HubCarried HubFault → Type 0
   IsOutcome old e new result =
       MatchResult result (λ c. step lens old.lenses (hub_tree old.parts) e
-      ≡ Some (Ok (hub_tree new.parts, carried_tree c)))
+      ≡ Some (Ok (hub_tree new.parts, hub_carried_tree c)))
       (IsHubRefusal (step lens old.lenses (hub_tree old.parts) e))

@@ -4,7 +4,8 @@ ghost use Rattle.std.specs.Prelude.{◌≡◌, Some, Ok, map, IfOk, MatchResult}
 ghost use Rattle.view_hub.specs.Groups.{step_group};
 ghost use Rattle.view_hub.specs.Hubs.{step};
 ghost use Rattle.view_hub.specs.Laws.{IsHub};
-ghost use Rattle.view_hub.specs.Views.{carried_tree, edit_tree, edit_trees, hub_tree, IsGroupRefusal, IsPartRefusal};
+ghost use Rattle.view_hub.specs.Views.{hub_carried_tree, edit_tree, edit_trees, hub_tree, IsGroupRefusal};
+ghost use Rattle.view_hub.specs.Views.{IsPartRefusal};
 
 use crate::fault::{HubFault, HubGroupFault};
 use crate::hub::next;
@@ -25,7 +26,7 @@ pub(crate) fn next_all<L: EditLens>(
     requires in_step { IsHub L.EditLens lenses.now (hub_tree parts.now) }
     ensures steps { MatchResult result
         (λ r. step_group L.EditLens lenses.now (hub_tree parts.now) (edit_trees edits.now)
-        ≡ Some (Ok (hub_tree r.0, map carried_tree r.1.items)))
+        ≡ Some (Ok (hub_tree r.0, map hub_carried_tree r.1.items)))
         (IsGroupRefusal (step_group L.EditLens lenses.now (hub_tree parts.now)
         (edit_trees edits.now))) }
     ensures in_step { IfOk result (λ r. IsHub L.EditLens lenses.now (hub_tree r.0)) }
@@ -51,7 +52,7 @@ fn next_part<L: EditLens>(
     requires in_step { IsHub L.EditLens lenses.now (hub_tree parts.now) }
     ensures steps { MatchResult result
         (λ r. step L.EditLens lenses.now (hub_tree parts.now) (edit_tree edit.now)
-        ≡ Some (Ok (hub_tree r.0, carried_tree r.1)))
+        ≡ Some (Ok (hub_tree r.0, hub_carried_tree r.1)))
         (IsPartRefusal part (step L.EditLens lenses.now (hub_tree parts.now)
         (edit_tree edit.now))) }
     ensures in_step { IfOk result (λ r. IsHub L.EditLens lenses.now (hub_tree r.0)) }

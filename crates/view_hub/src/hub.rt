@@ -11,7 +11,8 @@ ghost use Rattle.view_hub.specs.Groups.{add_view, step_group};
 ghost use Rattle.view_hub.specs.Hubs.{at_hub, at_view, first_view, lower, start_hub};
 ghost use Rattle.view_hub.specs.Lowering.{IsLowered};
 ghost use Rattle.view_hub.specs.Laws.{IsHub, HaveOneLeftType};
-ghost use Rattle.view_hub.specs.Views.{carried_tree, edit_trees, hub_tree, view_trees, place_of, IsGroupRefusal};
+ghost use Rattle.view_hub.specs.Views.{hub_carried_tree, edit_trees, hub_tree, view_trees, place_of_side};
+ghost use Rattle.view_hub.specs.Views.{IsGroupRefusal};
 ghost use Rattle.view_hub.specs.Views.{IsOutcome, IsNextOutcome};
 
 use crate::fault::{HubFault, HubGroupFault};
@@ -95,7 +96,7 @@ impl<L: EditLens> Hub<L> {
     /// carried to the hub and to every view, and applies there. A view whose word is empty keeps its document,
     /// which is neither copied nor walked over.
     pub fn step(&mut self, side: HubSide, word: &Word) -> Result<HubCarried, HubFault>
-        ensures steps { IsOutcome L.EditLens self.old (place_of side, word_tree word.now)
+        ensures steps { IsOutcome L.EditLens self.old (place_of_side side, word_tree word.now)
             self.new result }
         ensures in_step { IsHub L.EditLens self.new.lenses (hub_tree self.new.parts) }
         ensures lenses { self.new.lenses ≡ self.old.lenses }
@@ -122,7 +123,7 @@ impl<L: EditLens> Hub<L> {
         ensures steps { MatchResult result
             (λ words. step_group L.EditLens self.old.lenses (hub_tree self.old.parts)
             (edit_trees edits.now)
-            ≡ Some (Ok (hub_tree self.new.parts, map carried_tree words.items)))
+            ≡ Some (Ok (hub_tree self.new.parts, map hub_carried_tree words.items)))
             (IsGroupRefusal (step_group L.EditLens self.old.lenses (hub_tree self.old.parts)
             (edit_trees edits.now))) }
         ensures in_step { IsHub L.EditLens self.new.lenses (hub_tree self.new.parts) }
@@ -260,7 +261,7 @@ pub(crate) fn next<L: EditLens>(
 ) -> Result<(HubParts, HubCarried), HubFault>
     requires in_step { IsHub L.EditLens lenses.now (hub_tree parts.now) }
     ensures { IsNextOutcome L.EditLens lenses.now (hub_tree parts.now)
-        (place_of side, word_tree word.now) result }
+        (place_of_side side, word_tree word.now) result }
 {
     match side {
         HubSide::Hub => edit_hub(alloc, lenses, parts, word),

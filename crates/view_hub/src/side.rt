@@ -37,11 +37,11 @@ impl Twin for HubSide {
 
 impl Twin for HubCarried {
     ghost use Rattle.view_hub.specs.Hubs.{CarriedTree};
-    ghost use Rattle.view_hub.specs.Views.{carried_tree};
+    ghost use Rattle.view_hub.specs.Views.{hub_carried_tree};
 
     ghost Meaning = { CarriedTree };
 
-    ghost meaning = { carried_tree };
+    ghost meaning = { hub_carried_tree };
 
     fn twin(&self, alloc: Global) -> Result<Self, AllocError> {
         Ok(HubCarried {

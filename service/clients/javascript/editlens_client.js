@@ -5,9 +5,13 @@
 //     plan.follow((document, number) => { form.hours.value = document.hours; });
 //     form.hours.onchange = () => plan.edit([{ at: ["hours", [{ set: Number(form.hours.value) }]] }]);
 //
-// `follow` keeps a copy by the changes alone, and goes on after a lost connection. An edit that is sent has an Idempotency-Key. It is sent
-// again until it is answered, so it is made once; `pending` has those that are on their way. Whole numbers that JavaScript cannot hold are
-// BigInt.
+// `follow` keeps a copy by the changes alone, and goes on after a lost connection. The copy has what is stored, and no edit before that.
+//
+// `pending` has the edits that are not answered yet, in their order, and `waits` is called whenever it changes. They have an Idempotency-Key
+// each, and are sent again until they are answered, so each is made once. Those of one pair are sent one after another. `patience` says how long
+// one is sent again where no answer comes; with `Infinity` edits that were made without a network wait for it.
+//
+// Whole numbers that JavaScript cannot hold are BigInt.
 
 import { act, readType } from "./editlens_act.js";
 import { readJson, writeJson } from "./editlens_json.js";
@@ -50,6 +54,8 @@ export class Client {
     this.token = token;
     this.patience = patience;
     this.pending = new Map();
+    this.turns = new Map();
+    this.waits = () => {};
   }
 
   /** A side of a pair. */
@@ -77,15 +83,25 @@ export class Client {
     return treeOf(await this.send(method, path, headers, body));
   }
 
-  /** Sends a request that changes something. `expected` is the number of the state that it is made for. */
+  /** Sends a request that changes something, behind those of its pair. `expected` is the number of the state that it is made for. */
   async change(method, path, kind, body, { expected = null, key = crypto.randomUUID() } = {}) {
     const headers = { "Content-Type": kind, "Idempotency-Key": key, ...(expected === null ? {} : { "If-Match": `"${expected}"` }) };
     this.pending.set(key, { method, path, body });
+    this.waits(this.pending);
     try {
-      return await this.ask(method, path, headers, body);
+      return await this.inTurn(path.split("/").slice(0, 3).join("/"), () => this.ask(method, path, headers, body));
     } finally {
       this.pending.delete(key);
+      this.waits(this.pending);
     }
+  }
+
+  /** Makes a call when those before it have ended, well or not. */
+  inTurn(name, call) {
+    const made = (this.turns.get(name) ?? Promise.resolve()).then(call);
+    const ended = made.catch(() => {}).then(() => this.turns.get(name) === ended && this.turns.delete(name));
+    this.turns.set(name, ended);
+    return made;
   }
 
   headers(more) {

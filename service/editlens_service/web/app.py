@@ -37,6 +37,8 @@ class Route:
 SIDE, VIEW = "{side:left|right}", "{view:0|[1-9]\\d?}"
 
 ROUTES = (
+    # A path is looked for in this order, so what is asked for most comes first.
+    Route("POST", f"/pairs/{{name}}/{SIDE}/edits", edits.entries),
     Route("GET", "/healthz", health.healthz),
     Route("GET", "/readyz", health.readyz),
     Route("GET", "/metrics", health.metrics),
@@ -54,7 +56,6 @@ ROUTES = (
     Route("POST", "/pairs/{name}/check", programs.check),
     Route("GET", f"/pairs/{{name}}/{SIDE}", pairs.document),
     Route("PATCH", f"/pairs/{{name}}/{SIDE}", edits.patch),
-    Route("POST", f"/pairs/{{name}}/{SIDE}/edits", edits.entries),
     Route("GET", f"/pairs/{{name}}/{SIDE}/changes", streams.changes),
     Route("GET", f"/pairs/{{name}}/{SIDE}/history", pairs.history),
     Route("GET", "/pairs/{name}/desk/state", desk.state),
@@ -66,6 +67,7 @@ ROUTES = (
     Route("GET", "/hubs/{name}/store", stores.export),
     Route("PUT", "/hubs/{name}/store", stores.bring),
     Route("POST", "/hubs/{name}/edits", edits.mixed),
+    Route("POST", "/hubs/{name}/undo", edits.undo),
     *(
         Route(method, f"/hubs/{{name}}/{place}{rest}", handler)
         for place in ("{hub:hub}", f"views/{VIEW}")

@@ -14,7 +14,7 @@ from editlens.trial import carry
 
 from .. import tables
 from ..drafts import Draft, Kept, Made, step_all
-from ..engine import HUB, OTHER, PairState, SIDES, Session, line_of
+from ..engine import HUB, OTHER, PairState, SIDES, Session
 from ..problems import Conflict, Gone, NotAllowed, NotFound, Problem, Refused, TooLarge, cause_of
 from .pairs import etag, said
 from .requests import About, about, body_of, change_of, json_of, member, need_type
@@ -33,7 +33,7 @@ async def entries(request: web.Request) -> web.Response:
 
 
 async def mixed(request: web.Request) -> web.Response:
-    """Takes the lines of a journal: entries of any side, and groups, which are accepted as a whole or not at all."""
+    """Takes the lines of a journal: edits of any document, and groups, which are accepted as a whole or not at all."""
     it = await about(request, "edit", *(SIDES if request.path.startswith("/pairs/") else ()))
     need_type(request, *JOURNAL)
     body = await body_of(request)
@@ -175,7 +175,7 @@ def _patch_of(shape: Any, before: Any, word: Any) -> Any:
 
 async def undo(request: web.Request) -> web.Response:
     """Takes the last changes back, one or `count` of them, by a change of its own: the history stays. What was taken back is not taken back twice."""
-    it = await about(request, "edit", *SIDES)
+    it = await about(request, "edit", *(SIDES if request.path.startswith("/pairs/") else ()))
     need_type(request, "application/json")
     body = await body_of(request)
     count = member(json_of(body), "count", int, 1)
@@ -208,17 +208,9 @@ async def _taken_back(it: About, kept: Kept, count: int) -> Made:
     except Gone:
         raise Conflict("the log no longer has so many changes", cause="nothing-to-undo") from None
     state = earlier.state
-    assert isinstance(state, PairState)
-    snapshot, words = state.snapshot(), {side: [] for side in SIDES}
-    for payload in reversed(back):
-        stepped = state.step(line_of(payload))
-        assert stepped and stepped.is_accepted, "a stored change is accepted again"
-        for side, word in zip(SIDES, state.undo_words()):
-            words[side][:0] = read_json(word)
+    snapshot, text = state.snapshot(), f"[{','.join(state.words_back(back[::-1], kept.state))}]"  # type: ignore[arg-type]
     state.close()
-    text = write_json([words[side] for side in SIDES])
     draft = Draft("undo", snapshot, "undo", f"undo {count}", text, target)
-    replaced = PairState.reopen(f"{kept.opening}\n{snapshot}")
+    replaced = type(state).reopen(f"{kept.opening}\n{snapshot}")
     answer = {"ok": True, "number": kept.number + 1, "rest": draft.answer, "words": text}
     return Made({"answers": [answer]}, [draft], (kept.opening, replaced))
-

@@ -135,9 +135,10 @@ async def body_of(request: web.Request, most: "int | None" = None) -> bytes:
 
 
 def need_type(request: web.Request, *kinds: str) -> None:
-    """Raises NotTaken where the body is of another kind."""
-    if request.content_type not in kinds:
-        raise NotTaken(f"Content-Type is to be {' or '.join(kinds)}, and not {request.content_type}")
+    """Raises NotTaken where the body is of another kind. No parameter of a kind matters here, so the header is not read as a whole."""
+    kind = request.headers.get("Content-Type", "application/octet-stream").partition(";")[0].strip().lower()
+    if kind not in kinds:
+        raise NotTaken(f"Content-Type is to be {' or '.join(kinds)}, and not {kind}")
 
 
 def json_of(body: bytes) -> Any:

@@ -1,11 +1,16 @@
 """What a lens remembers, in a sentence."""
 
+from __future__ import annotations
+
+from typing import Any
+
+from ..lenses import Lens
 from ..types import write_name
 
 MANY = 12
 
 
-def remembered(lens, complement):
+def remembered(lens: Lens, complement: Any) -> str:
     """A sentence on what a complement remembers that the documents do not show."""
     orders = list(_orders(lens, complement, ()))
     if orders:

@@ -1,5 +1,9 @@
 """The desk of a pair: a session of a lens program, or a store of one."""
 
+from __future__ import annotations
+
+from typing import Any, Callable, Iterable
+
 from ..answers import ProgramRefused, Refused, RunEnded
 from ..json_text import write_json
 from ..lenses import read_lens
@@ -15,26 +19,26 @@ from .shared import Shared
 class Desk(Shared):
     """The desk of both documents of a lens program, by the names of their sides. `load` begins a session of another program."""
 
-    def __init__(self, keeper, title, notices=()):
+    def __init__(self, keeper: Any, title: str, notices: Iterable[str] = ()) -> None:
         self.lens = read_lens(keeper.program)
         super().__init__(keeper, title, notices)
 
-    def view_of(self, _view):
+    def view_of(self, _view: Any) -> None:
         """A pair has no views."""
 
-    def place(self, side, _view):
+    def place(self, side: str, _view: Any) -> str:
         """The name of the document of a side."""
         return side
 
-    def names_of(self, _view):
+    def names_of(self, _view: Any) -> dict[str, Any]:
         """The names of the documents of both sides."""
         return {"left": "left", "right": "right"}
 
-    def said_name(self, name):
+    def said_name(self, name: str) -> str:
         """What a document is called."""
         return name
 
-    def lens_of(self, _view):
+    def lens_of(self, _view: Any) -> tuple[str, Any]:
         """The text of the lens program, and its lens."""
         return self.keeper.program, self.lens
 
@@ -44,19 +48,22 @@ class Desk(Shared):
     def _drawn_complement(self, _view):
         return self.complement
 
-    def _told(self):
+    def _told(self) -> Callable[[Any], dict[str, Any]]:
         lens = self.lens
         return lambda tree: {"tree": tree, "text": write_json(tree), "sentence": remembered(lens, tree)}
 
-    def file(self, side):
+    def file(self, side: str) -> dict[str, Any] | None:
         """The user's file of a side as it is now, with its version, or None where no form file is known."""
         with self.news:
             if not self.keeper.forms:
                 return None
             return {"version": self.version, "session": self.session, **drawn_file(self.keeper.files, side)}
 
-    def patch(self, base, side, text, drop_private=False):
-        """Sends the text of a JSON Patch of a side's file that was made for a version. `drop_private` says that the other side may lose what it alone has."""
+    def patch(self, base: Any, side: str, text: str, drop_private: bool = False) -> dict[str, Any]:
+        """Sends the text of a JSON Patch of a side's file that was made for a version.
+
+        `drop_private` says that the other side may lose what it alone has.
+        """
         with self.news:
             stale = self._stale(base)
             if stale:
@@ -70,11 +77,11 @@ class Desk(Shared):
                 return self._failed(why)
             return self._taken(before, side, done.word, done.answer)
 
-    def check(self, program_text):
+    def check(self, program_text: str) -> dict[str, Any]:
         """What the program says of another lens program."""
         return judged(program_text)
 
-    def load(self, base, program_text):
+    def load(self, base: Any, program_text: str) -> dict[str, Any]:
         """Begins a session of another lens program with the documents as they are."""
         with self.news:
             stale = self._stale(base)

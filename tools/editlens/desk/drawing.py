@@ -4,12 +4,18 @@ JavaScript reads no 64-bit numbers and puts the keys of an object into an order 
 and maps as arrays. The type says which is which.
 """
 
+from __future__ import annotations
+
+from typing import Any, Iterable
+
 from ..json_text import pointer
+from ..lenses import Lens
 from ..sharing import INSIDE, is_shared, shared_places
+from ..types import Ty
 from ..written import in_written_order
 
 
-def drawn_document(ty, document):
+def drawn_document(ty: Any, document: Any) -> Any:
     """A document as arrays and strings."""
     if ty.kind == "int":
         return str(document)
@@ -27,7 +33,7 @@ def drawn_document(ty, document):
     return document
 
 
-def drawn_type(ty, shared, path=()):
+def drawn_type(ty: Ty, shared: set[Any], path: tuple[Any, ...] = ()) -> dict[str, Any]:
     """A type with a mark at each place: whether the other side knows something of it."""
     drawn = {"kind": ty.kind, "shared": is_shared(ty, path, shared)}
     if ty.kind in ("record", "alternatives"):
@@ -43,15 +49,15 @@ def drawn_type(ty, shared, path=()):
     return drawn
 
 
-def drawn_types(types, lens):
+def drawn_types(types: dict[str, Ty], lens: Lens) -> dict[str, Any]:
     """The types of both sides, marked by what the lens ties. Documents have the fields of a record by bytes; `order` is that of the program."""
     shared = shared_places(lens)
     return {side: drawn_type(in_written_order(ty, lens, side), shared[side]) for side, ty in types.items()}
 
 
-def drawn_lens(lens):
+def drawn_lens(lens: Lens) -> dict[str, Any]:
     """A lens as far as the page needs it to find what a place is tied to."""
-    drawn = {"kind": lens.kind, "inner": [drawn_lens(it) for it in lens.inner]}
+    drawn: dict[str, Any] = {"kind": lens.kind, "inner": [drawn_lens(it) for it in lens.inner]}
     if lens.rows:
         drawn["rows"] = [[row.left, row.right, drawn_lens(row.lens)] for row in lens.rows if row.lens]
     if lens.tags:
@@ -59,6 +65,6 @@ def drawn_lens(lens):
     return drawn
 
 
-def drawn_changes(changes):
+def drawn_changes(changes: Iterable[tuple[tuple[Any, ...], str]]) -> list[list[str]]:
     """The places that changed, as JSON Pointers, each with what was done there."""
     return [[pointer(path), sort] for path, sort in changes]

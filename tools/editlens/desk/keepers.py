@@ -7,18 +7,25 @@ can take back one change after another, and `redo` makes them again.
 `forms` has the form files of the sides that have one, each a tree of JSON.
 """
 
-import subprocess
+from __future__ import annotations
 
-from ..answers import Refused, RunEnded
+import subprocess
+from typing import Any, Callable, Iterable
+
+from ..answers import Accepted, Refused, RunEnded
 from ..construct import set_steps, words_of
 from ..documents import misfits
 from ..json_text import read_json, write_json
 from ..lines import lines_of
-from ..load import DoesNotFit, load_words
+from ..load import Disagreement, DoesNotFit, load_words
+from ..natural.files import Files, Patched
 from ..open_store import stored_program
 from ..parts import SEPARATOR, program_of
 from ..session import DocumentsDiffer, Session
 from ..store import Store
+from ..types import Ty
+
+Forms = dict[str, Any]
 
 
 class RunKeeper:
@@ -26,33 +33,35 @@ class RunKeeper:
 
     is_store = False
 
-    def __init__(self, program_text, path=None, forms=None):
+    def __init__(self, program_text: str, path: str | None = None, forms: Forms | None = None) -> None:
         self.program, self.forms = program_of(program_text), forms or {}
         self.session = Session(self.program, path, forms=self.forms)
-        self.lines, self.first, self.undone = [], 0, []
+        self.lines: list[str] = []
+        self.undone: list[str] = []
+        self.first = 0
 
     @property
-    def types(self):
+    def types(self) -> dict[str, Ty]:
         """The types of both sides."""
         return self.session.types
 
     @property
-    def documents(self):
+    def documents(self) -> dict[str, Any]:
         """Both documents."""
         return self.session.documents
 
-    def entry(self, side, edit):
+    def entry(self, side: str, edit: Any) -> Accepted:
         """Sends an edit, and returns its answer."""
         answer = self.session.entry(side, edit)
         self._took(side, edit)
         return answer
 
     @property
-    def files(self):
+    def files(self) -> Files:
         """The users' files of both sides."""
         return self.session.files
 
-    def patch(self, side, patch, drop_private=False):
+    def patch(self, side: str, patch: Any, drop_private: bool = False) -> Patched:
         """Sends a JSON Patch of the file of a side, and returns what came of it, as Patched."""
         done = self.session.files.patch(side, patch, drop_private)
         self._took(side, done.word)
@@ -63,11 +72,11 @@ class RunKeeper:
         self.undone = []
 
     @property
-    def can_undo(self):
+    def can_undo(self) -> bool:
         """Whether an entry came since the session began."""
         return len(self.lines) > self.first
 
-    def undo(self):
+    def undo(self) -> tuple[str, Any]:
         """Goes back to the state before the last entry, and returns its side and its edit. Another run takes the entries before it again."""
         earlier = Session(self.program, self.session.path, forms=self.forms)
         try:
@@ -83,7 +92,7 @@ class RunKeeper:
         entry = read_json(last)
         return entry["side"], entry["edit"]
 
-    def redo(self):
+    def redo(self) -> tuple[str, Any, Accepted]:
         """Sends the entry again that was taken back last. Returns its side, its edit and its answer."""
         *undone, line = self.undone
         entry = read_json(line)
@@ -91,7 +100,7 @@ class RunKeeper:
         self.undone = undone
         return entry["side"], entry["edit"], answer
 
-    def begin(self, left=None, right=None):
+    def begin(self, left: Any = None, right: Any = None) -> list[Disagreement]:
         """Builds documents that exist, and returns where they disagree. Raises DoesNotFit."""
         disagreements = []
         if right is not None:
@@ -109,17 +118,17 @@ class RunKeeper:
         self.first = len(self.lines)
         return disagreements
 
-    def reader(self):
+    def reader(self) -> Callable[[], Any]:
         """A call that finds the complement of the session as it is now. It may run beside later edits."""
         lines = list(self.lines)
         return lambda: state_after(self.program, lines, self.session.path)["complement"]
 
-    def close(self):
+    def close(self) -> None:
         """Ends the run."""
         self.session.stop()
 
 
-def state_after(program, lines, path):
+def state_after(program: str, lines: Iterable[str], path: str) -> dict[str, Any]:
     """What the program says at the end of a run over some lines: both documents and the complement."""
     text = "\n".join([program.rstrip("\n"), SEPARATOR, *lines, ""])
     ran = subprocess.run([path, "run"], input=text.encode(), stdout=subprocess.PIPE, check=False)
@@ -133,42 +142,42 @@ class StoreKeeper:
 
     is_store, can_undo, undone = True, True, ()
 
-    def __init__(self, folder, path=None, forms=None):
+    def __init__(self, folder: str, path: str | None = None, forms: Forms | None = None) -> None:
         self.client, self.forms = Store.open(folder, path, forms=forms), forms or {}
         self.program = stored_program(self.client.store.file)
 
     @property
-    def types(self):
+    def types(self) -> dict[str, Ty]:
         """The types of both sides."""
         return self.client.types
 
     @property
-    def documents(self):
+    def documents(self) -> dict[str, Any]:
         """Both documents."""
         return self.client.documents
 
-    def entry(self, side, edit):
+    def entry(self, side: str, edit: Any) -> Accepted:
         """Sends an edit, and returns its answer. It is on the disk then."""
         return self.client.entry(side, edit)
 
     @property
-    def files(self):
+    def files(self) -> Files:
         """The users' files of both sides."""
         return self.client.files
 
-    def patch(self, side, patch, drop_private=False):
+    def patch(self, side: str, patch: Any, drop_private: bool = False) -> Patched:
         """Sends a JSON Patch of the file of a side, and returns what came of it, as Patched. It is on the disk then."""
         return self.client.files.patch(side, patch, drop_private)
 
-    def undo(self):
+    def undo(self) -> dict[str, Any]:
         """Takes the last change back, and returns the edits that did so, by their sides."""
         return dict(zip(("left", "right"), self.client.undo()))
 
-    def reader(self):
+    def reader(self) -> Callable[[], Any]:
         """A call that finds the complement as it is when it runs."""
         return lambda: self.client.store.show()[2]
 
-    def close(self):
+    def close(self) -> None:
         """Gives the store back. Each change is on the disk already."""
         if self.client.is_open:
             self.client.close()

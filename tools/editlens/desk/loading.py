@@ -1,5 +1,9 @@
 """A lens program that is typed: whether it is accepted, and the documents of a session carried over to it."""
 
+from __future__ import annotations
+
+from typing import Any
+
 from ..answers import ProgramRefused
 from ..checked import OFFSETS, check, explain_program
 from ..documents import fits, is_depth_list, misfits
@@ -7,7 +11,7 @@ from ..parts import program_of
 from ..types import initial, token_at, write_type
 
 
-def judged(program_text, path=None):
+def judged(program_text: str, path: str | None = None) -> dict[str, Any]:
     """What the program says of a text: both types, or why it is refused, with the place in characters where there is one."""
     try:
         left, right = check(program_of(program_text), path)
@@ -16,7 +20,7 @@ def judged(program_text, path=None):
     return {"accepted": True, "left": write_type(left), "right": write_type(right)}
 
 
-def place_of_reason(program_text, reason):
+def place_of_reason(program_text: str, reason: str) -> dict[str, int | None]:
     """The place in a program, in characters, for which it is refused. Both ends are None where the reason names none."""
     words = reason.split(" ")
     if words[0] not in OFFSETS:
@@ -27,7 +31,7 @@ def place_of_reason(program_text, reason):
     return {"from": begin, "to": begin + max(1, len(token.text))}
 
 
-def fitted(ty, tree):
+def fitted(ty: Any, tree: Any) -> Any:
     """The document of a type that keeps what fits of a tree. Where something does not fit, there is the initial value."""
     if fits(ty, tree):
         return tree
@@ -50,7 +54,7 @@ def _has_nodes(tree):
     return is_pair and is_depth_list(tree["depths"]) and len(tree["depths"]) == len(tree["items"])
 
 
-def carried_over(keeper, documents):
+def carried_over(keeper: Any, documents: dict[str, Any]) -> list[str]:
     """Gives a new session the documents of another one, and returns a line for each place that does not fit or that the sides disagree on."""
     lines, kept = [], {}
     for side, ty in keeper.types.items():

@@ -1,6 +1,9 @@
 """A script, step by step: what each line of its journal did, forward and back."""
 
+from __future__ import annotations
+
 import threading
+from typing import Any
 
 from ..answers import Refused
 from ..causes import CAUSES
@@ -22,10 +25,10 @@ class Replay:
 
     can_edit, death = False, None
 
-    def __init__(self, script, title, path=None):
+    def __init__(self, script: str, title: str, path: str | None = None) -> None:
         self.program, self.title = program_of(script), title
         self.lines = journal_of(script)
-        self.steps = []
+        self.steps: list[Any] = []
         with Session(self.program, path) as session:
             self.lens = read_lens(self.program)
             self.path, self.types = session.path, session.types
@@ -33,7 +36,8 @@ class Replay:
             for line in self.lines:
                 self.steps.append(self._step(session, line))
         self.drawn = drawn_types(self.types, self.lens)
-        self.complements, self.finding = {}, threading.Lock()
+        self.complements: dict[int, Any] = {}
+        self.finding = threading.Lock()
 
     def _step(self, session, line):
         before = dict(session.documents)
@@ -66,7 +70,7 @@ class Replay:
             pass
         return said
 
-    def state(self, step=0, _known=None, _view=None):
+    def state(self, step: int = 0, _known: Any = None, _view: Any = None) -> dict[str, Any]:
         """Everything that a window draws at a step."""
         step = max(0, min(step, len(self.lines)))
         done, documents, changes = self.steps[step]
@@ -100,17 +104,17 @@ class Replay:
                 self.complements[step] = {"version": step, "tree": tree, "text": write_json(tree), "sentence": remembered(self.lens, tree)}
             return self.complements[step]
 
-    def file(self, _side):
+    def file(self, _side: str) -> None:
         """A replay shows documents alone."""
 
-    def check(self, program_text):
+    def check(self, program_text: str) -> dict[str, Any]:
         """What the program says of another lens program."""
         return judged(program_text)
 
-    def wait(self, signal, seconds):
+    def wait(self, signal: int, seconds: float) -> int:
         """Nothing changes in a replay."""
         threading.Event().wait(seconds)
         return signal
 
-    def close(self):
+    def close(self) -> None:
         """Nothing is open."""

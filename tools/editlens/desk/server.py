@@ -5,6 +5,8 @@ of this server too, and JSON of bounded length. So another page in the same brow
 program of another user that does not know the token.
 """
 
+from __future__ import annotations
+
 import hmac
 import json
 import os
@@ -12,6 +14,7 @@ import secrets
 import sys
 import threading
 from http.server import BaseHTTPRequestHandler, ThreadingHTTPServer
+from typing import Any
 from urllib.parse import parse_qs, urlsplit
 
 from ..answers import RunEnded
@@ -44,7 +47,7 @@ HEADERS = {
 class BadRequest(Exception):
     """A request that is refused: the status of HTTP and why."""
 
-    def __init__(self, status, why):
+    def __init__(self, status: int, why: str) -> None:
         super().__init__(why)
         self.status = status
 
@@ -58,24 +61,25 @@ class DeskServer(ThreadingHTTPServer):
 
     daemon_threads = True
 
-    def __init__(self, desk, port=0):
+    def __init__(self, desk: Any, port: int = 0) -> None:
         super().__init__((ADDRESS, port), _Handler)
         self.desk, self.token = desk, secrets.token_urlsafe(24)
-        self.streams, self.death = 0, None
+        self.streams = 0
+        self.death: BaseException | None = None
         self.free = threading.BoundedSemaphore(MOST_CONNECTIONS)
         self.files = {name: _read(os.path.join(PAGE, name)) for name in sorted(os.listdir(PAGE)) if os.path.splitext(name)[1] in KINDS}
 
     @property
-    def hosts(self):
+    def hosts(self) -> list[str]:
         """The hosts that a request may name."""
         return [f"{it}:{self.server_port}" for it in NAMES]
 
     @property
-    def url(self):
+    def url(self) -> str:
         """The address of the page, with its token."""
         return f"http://{self.hosts[0]}/{self.token}/"
 
-    def process_request(self, request, client_address):
+    def process_request(self, request: Any, client_address: Any) -> None:
         """Answers a connection in a thread, and closes one above the most that may be open."""
         if not self.free.acquire(blocking=False):
             self.shutdown_request(request)
@@ -86,20 +90,20 @@ class DeskServer(ThreadingHTTPServer):
             self.free.release()
             raise
 
-    def process_request_thread(self, request, client_address):
+    def process_request_thread(self, request: Any, client_address: Any) -> None:
         """The thread of a connection."""
         try:
             super().process_request_thread(request, client_address)
         finally:
             self.free.release()
 
-    def handle_error(self, request, client_address):
+    def handle_error(self, request: Any, client_address: Any) -> None:
         """A window that went away in the middle of an answer is no fault. Anything else ends the desk."""
         why = sys.exc_info()[1]
         if not isinstance(why, OSError):
             self.death = why
 
-    def service_actions(self):
+    def service_actions(self) -> None:
         """Ends the desk where a thread has died: what its page would show from then on may be old, and nothing would say so."""
         why = self.death or self.desk.death
         if why:

@@ -1,7 +1,10 @@
 """What the desks of a pair and of a hub have in common: edits are taken one after another, and each window sees each change."""
 
+from __future__ import annotations
+
 import threading
 import time
+from typing import Any, Callable, Iterable, Sequence
 
 from ..answers import Refused, RunEnded
 from ..causes import CAUSES
@@ -30,16 +33,20 @@ class Shared:
 
     can_edit = True
 
-    def __init__(self, keeper, title, notices=()):
+    def __init__(self, keeper: Any, title: str, notices: Iterable[str] = ()) -> None:
         self.keeper, self.title, self.notices = keeper, title, list(notices)
         self.version = self.session = self.signal = 0
-        self.history, self.changes, self.replaced = [], {}, None
-        self.complement = None
-        self.fault, self.death, self.is_closed = None, None, False
+        self.history: list[Any] = []
+        self.changes: dict[Any, Any] = {}
+        self.replaced: Any = None
+        self.complement: Any = None
+        self.fault: str | None = None
+        self.death: BaseException | None = None
+        self.is_closed = False
         self.news = threading.Condition(threading.RLock())
         threading.Thread(target=self._follow, daemon=True).start()
 
-    def state(self, _step=0, known=(None, None, None), view=None):
+    def state(self, _step: int = 0, known: Sequence[Any] = (None, None, None), view: Any = None) -> dict[str, Any]:
         """Everything that a window draws. Steps are those of a replay, and views those of a hub.
 
         `known` is what a window has of that view: a session, a version, and the version of its complement. That is left out, and a document
@@ -61,6 +68,42 @@ class Shared:
                 "redo": {"can": not keeper.is_store, "now": bool(keeper.undone)},
                 **self._more(view),
             }
+
+    def view_of(self, view: Any) -> Any:
+        """The view that is shown to a window that asks for one."""
+        raise NotImplementedError
+
+    def names_of(self, view: Any) -> dict[str, Any]:
+        """The names of the documents that the sides of a window show."""
+        raise NotImplementedError
+
+    def said_name(self, name: Any) -> str:
+        """What a document is called."""
+        raise NotImplementedError
+
+    def lens_of(self, view: Any) -> tuple[str, Any]:
+        """The text of the lens program between both sides of a window, and its lens."""
+        raise NotImplementedError
+
+    def _more(self, view: Any) -> dict[str, Any]:
+        """What the state of such a desk has more than others."""
+        raise NotImplementedError
+
+    def _drawn_complement(self, view: Any) -> Any:
+        """The complement as a window shows it, or None where it is not known yet."""
+        raise NotImplementedError
+
+    def _told(self) -> Callable[[Any], dict[str, Any]]:
+        """A call that makes of what was read what is kept of the complement."""
+        raise NotImplementedError
+
+    def _taken(self, before: dict[Any, Any], name: Any, edit: Any, answer: Any) -> dict[str, Any]:
+        """Takes the answer to an edit over."""
+        raise NotImplementedError
+
+    def _undone(self, before: dict[Any, Any], words: dict[Any, Any]) -> None:
+        """Takes the words over by which a store took its last change back."""
+        raise NotImplementedError
 
     def _documents_for(self, session, version, view):
         names = self.names_of(view)
@@ -86,7 +129,7 @@ class Shared:
         values = [[list(it), drawn_document(*at_path(ty, document, it))] for it in self.replaced[name]]
         return {"replaced": values, "changes": drawn_changes(self.changes.get(name, ()))}
 
-    def edit(self, base, name, edit):
+    def edit(self, base: Any, name: Any, edit: Any) -> dict[str, Any]:
         """Sends an edit of a document that was made for a version."""
         with self.news:
             stale = self._stale(base)
@@ -101,7 +144,7 @@ class Shared:
                 return self._failed(why)
             return self._taken(before, name, edit, answer)
 
-    def undo(self, base):
+    def undo(self, base: Any) -> dict[str, Any]:
         """Takes the last change back."""
         with self.news:
             stale = self._stale(base)
@@ -122,7 +165,7 @@ class Shared:
                 self._went_back(*done)
             return {"ok": True, "version": self.version}
 
-    def redo(self, base):
+    def redo(self, base: Any) -> dict[str, Any]:
         """Makes the change again that was taken back last."""
         with self.news:
             stale = self._stale(base)
@@ -136,13 +179,13 @@ class Shared:
             except (Refused, RunEnded, DocumentsDiffer, OSError) as why:
                 return self._failed(why)
 
-    def wait(self, signal, seconds):
+    def wait(self, signal: int, seconds: float) -> int:
         """The signal when there is something newer than another one, or the same one after some seconds."""
         with self.news:
             self.news.wait_for(lambda: self.signal != signal, seconds)
             return self.signal
 
-    def close(self):
+    def close(self) -> None:
         """Ends the session."""
         with self.news:
             self.keeper.close()

@@ -1,7 +1,10 @@
 """A guess at the type of a place and at its forms: what `samples` and `schemas` make, and what `ties` brings together."""
 
+from __future__ import annotations
+
 import re
 from dataclasses import dataclass, field, replace
+from typing import Any, Iterable
 
 from ..json_text import pointer
 from ..types import LEAST_INT, MOST_INT, Ty
@@ -66,17 +69,17 @@ class Guess:
         return {SOME: self}
 
 
-def scalar(kind: str, values=()) -> Guess:
+def scalar(kind: str, values: Iterable[Any] = ()) -> Guess:
     """A guess of a simple type."""
     return Guess(kind, start={"bool": False, "int": 0, "text": ""}.get(kind), values=frozenset(values))
 
 
-def number(values=()) -> Guess:
+def number(values: Iterable[Any] = ()) -> Guess:
     """A number of any size, kept to the letter."""
     return Guess("text", form="number", start="0", values=frozenset(values))
 
 
-def anything(*doubts: str, is_unknown: bool = False, values=()) -> Guess:
+def anything(*doubts: str, is_unknown: bool = False, values: Iterable[Any] = ()) -> Guess:
     """Any JSON value, kept as its text."""
     return Guess("text", form="json", start="null", doubts=doubts, is_unknown=is_unknown, values=frozenset(values))
 

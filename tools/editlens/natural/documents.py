@@ -1,11 +1,14 @@
 """Documents of users' files: a file held against the shape of a type, and the document that it shows."""
 
+from __future__ import annotations
+
 from collections.abc import Mapping
+from typing import Any, Iterable, Sequence
 
 from ..documents import MOST_DEPTH, Misfit, is_depth_list, is_int
 from ..json_text import pointer
 from ..types import write_name
-from .forms import is_object, sorts
+from .forms import Shape, is_object, sorts
 from .places import Place, content, members
 from .text import is_same, number_text, read_number, shown, sort_of, write_file
 
@@ -16,17 +19,17 @@ NOTHING = object()
 class DoesNotFit(ValueError):
     """A file that does not fit: every place, as a Misfit."""
 
-    def __init__(self, places):
+    def __init__(self, places: Sequence[Any]) -> None:
         super().__init__("\n".join(map(str, places)))
         self.places = places
 
 
-def to_document(shape, tree, path=()):
+def to_document(shape: Shape, tree: Any, path: Iterable[Any] = ()) -> Any:
     """The document that a user's file shows. Raises DoesNotFit with every place that does not fit."""
     return _all_of(lambda reader: reader.read(shape, tree, tuple(path)))
 
 
-def lost_orders(shape, document):
+def lost_orders(shape: Shape, document: Any) -> list[tuple[Any, ...]]:
     """The places of the lists by key whose order is not kept, and is not the byte order of their keys. Raises NotWritable."""
     return sorted(_lost_orders(Place(shape, document), ()))
 
@@ -39,14 +42,14 @@ def _lost_orders(place, path):
         yield from _lost_orders(it, (*path, step))
 
 
-def item_of(shape, tree, path=()):
+def item_of(shape: Shape, tree: Any, path: Iterable[Any] = ()) -> tuple[str, Any]:
     """The key and the content of an item of a list by key. Raises DoesNotFit."""
     return _all_of(lambda reader: reader.item(shape, tree, tuple(path)))
 
 
-def nodes_of(shape, trees, path=(), number=0):
+def nodes_of(shape: Shape, trees: Iterable[Any], path: Iterable[Any] = (), number: int = 0) -> list[tuple[int, Any]]:
     """The nodes of nested trees in preorder, each a depth and a content. The first tree has a number in its list. Raises DoesNotFit."""
-    nodes = []
+    nodes: list[tuple[int, Any]] = []
 
     def read(reader):
         for place, tree in enumerate(trees, number):
@@ -56,9 +59,9 @@ def nodes_of(shape, trees, path=(), number=0):
     return _all_of(read)
 
 
-def node_of(shape, tree, path=()):
+def node_of(shape: Shape, tree: Any, path: Iterable[Any] = ()) -> list[tuple[int, Any]]:
     """The nodes of one nested tree in preorder. Raises DoesNotFit."""
-    nodes = []
+    nodes: list[tuple[int, Any]] = []
 
     def read(reader):
         reader.node(shape, tree, tuple(path), 0, nodes)
@@ -75,7 +78,7 @@ def _all_of(read):
     return found
 
 
-def wanted(shape):
+def wanted(shape: Shape) -> str:
     """What a place of a file wants, for a person."""
     kind, form = shape.ty.kind, shape.form
     if shape.is_untagged():

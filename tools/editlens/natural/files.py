@@ -1,6 +1,9 @@
 """A client whose documents are users' files: patches of either file go in, and patches of the other file come out."""
 
+from __future__ import annotations
+
 from dataclasses import dataclass
+from typing import Any, Iterable
 
 from ..answers import OTHER, Accepted
 from ..edits import NoApply, act
@@ -41,12 +44,12 @@ class Files:
     patch are those of these files: a list by key that keeps no order has the one that is shown here.
     """
 
-    def __init__(self, session, forms=None):
+    def __init__(self, session: Any, forms: dict[str, Any] | None = None) -> None:
         self.session, self.trial = session, Trial(session)
         self.shapes = {side: read_form(ty, (forms or {}).get(side, {})) for side, ty in session.types.items()}
         self._written = {side: Written() for side in self.shapes}
 
-    def __getitem__(self, side):
+    def __getitem__(self, side: str) -> Any:
         return to_file(self.shapes[side], self.session.documents[side])
 
     def _file(self, side, document):
@@ -58,7 +61,7 @@ class Files:
     def _patch(self, side, document, word):
         return to_patch(self.shapes[side], document, word, self._written[side])
 
-    def patch(self, side, patch, drop_private=False):
+    def patch(self, side: str, patch: Any, drop_private: bool = False) -> Patched:
         """Sends a JSON Patch of the file of a side. Returns what comes of it, as Patched.
 
         Raises NoCounterpart where no edit makes it, PrivateLoss where the other side would lose what it alone has, unless `drop_private`,
@@ -73,7 +76,7 @@ class Files:
             other = OTHER[side]
             return Patched(answer, self._patch(other, before[other], answer.word), made.patch, made.word)
 
-    def group(self, *patches, drop_private=False):
+    def group(self, *patches: tuple[str, Any], drop_private: bool = False) -> PatchedGroup:
         """Sends patches, each a side and a JSON Patch, that are accepted together or not at all. Returns what comes of it, as PatchedGroup.
 
         Each patch is of the file as the patches before it leave it. What `patch` raises is raised here.
@@ -91,13 +94,13 @@ class Files:
                 before = {side: it.document, other: act(self.session.types[other], before[other], word)}
             return PatchedGroup(answer, carried, [it.patch for _, it in made])
 
-    def undo(self, count=1):
+    def undo(self, count: int = 1) -> list[Any]:
         """Takes the last changes of a store back. Returns the patches of both files, as `patches` does."""
         with self.session.lock:
             before = self.session.documents
             return self.patches(before, self.session.undo(count))
 
-    def patches(self, before, words):
+    def patches(self, before: dict[str, Any], words: Iterable[Any]) -> list[Any]:
         """The patches of both files for the words that changed both documents, as `undo` returns them. `before` are the documents then.
 
         Where another program has changed the store meanwhile, a file comes as a whole.

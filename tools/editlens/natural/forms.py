@@ -1,7 +1,10 @@
 """Form files: how a user's file writes the places of a type. docs/TOOLS.md has the forms."""
 
+from __future__ import annotations
+
 from dataclasses import dataclass, field
 from functools import cached_property
+from typing import Any
 
 from ..json_text import NotJson, pointer, read_json_file, read_pointer, shown
 from ..types import Ty, write_type
@@ -35,7 +38,7 @@ SCALARS = ("null", "bool", "number", "string")
 class FormFault(ValueError):
     """A form file that says nothing of its type: every fault, each with its place."""
 
-    def __init__(self, faults):
+    def __init__(self, faults: list[tuple[Any, str]]) -> None:
         super().__init__("\n".join(f"{pointer(path) or '(the document)'}: {reason}" for path, reason in faults))
         self.faults = faults
 
@@ -56,35 +59,35 @@ class Shape:
     form: dict = field(default_factory=dict)
     inner: dict = field(default_factory=dict)
 
-    def is_untagged(self):
+    def is_untagged(self) -> bool:
         """Whether the content of alternatives is written alone."""
         return any(it in self.form for it in ("untagged", "missing", "null"))
 
-    def is_key_list(self):
+    def is_key_list(self) -> bool:
         """Whether a keyed map is written as a list of objects, each with its key."""
         return "key" in self.form
 
     @cached_property
-    def names(self):
+    def names(self) -> Names:
         """The names that the members may have, whatever the document is, where it is written as an object."""
         return _names(self)
 
     @cached_property
-    def open_field(self):
+    def open_field(self) -> str | None:
         """The flat field of a record that takes the members which have no other place, or None."""
         return next((name for name, it in self.inner.items() if "flat" in it.form and it.names.is_open), None)
 
     @cached_property
-    def other_names(self):
+    def other_names(self) -> set[str]:
         """The names of members that the open field of a record cannot have, since reading gives them to other fields."""
         others = [(name, it) for name, it in self.inner.items() if name != self.open_field]
         return {known for name, it in others for known in (it.names.known if "flat" in it.form else (name,))}
 
-    def keeps_orders(self):
+    def keeps_orders(self) -> bool:
         """Whether every list by key in it keeps its order."""
         return not (self.is_key_list() and "order" not in self.form) and all(it.keeps_orders() for it in self.inner.values())
 
-    def shows_all(self):
+    def shows_all(self) -> bool:
         """Whether a file shows every document of the type: no text is to be a number or JSON, and no key may be the name of a member."""
         form = self.form
         if any(it in form and "kind" not in form for it in ("number", "decimal", "json")) or self.open_field and self.other_names:
@@ -95,32 +98,33 @@ class Shape:
                 return False
         return all(it.shows_all() for it in self.inner.values())
 
-    def loosened(self):
+    def loosened(self) -> Shape:
         """The same shape, in which a leaf may have an empty list of children or none."""
         form = {**self.form, "leaf": "either"} if "leaf" in self.form else self.form
         return Shape(self.ty, form, {name: it.loosened() for name, it in self.inner.items()})
 
-    def has_bare_leaves(self):
+    def has_bare_leaves(self) -> bool:
         """Whether the leaves of a tree in it have no list of children."""
         return self.form.get("leaf") == "missing" or any(it.has_bare_leaves() for it in self.inner.values())
 
-    def map_field(self):
+    def map_field(self) -> str:
         """The field that has the map, where a record of a map and an order is written as a list."""
         return next(name for name in self.inner if name != self.form["order"])
 
-    def content(self):
+    def content(self) -> Shape:
         """The shape of the contents of a container. For a map with an order it is that of the map's."""
         return self.inner[self.map_field()].inner["*"] if self.ty.kind == "record" else self.inner["*"]
 
 
-def plain(ty):
+def plain(ty: Ty) -> Shape:
     """The shape of a type without any form: its documents are written as they are."""
     return _built(ty, {}, (), set(), [])
 
 
-def read_form(ty, tree):
+def read_form(ty: Ty, tree: Any) -> Shape:
     """The shape of a type by a form file. Raises FormFault with every fault."""
-    faults, used = [], set()
+    faults: list[tuple[Any, str]] = []
+    used: set[Any] = set()
     if not isinstance(tree, dict):
         raise FormFault([((), f"a form file is an object from places to forms, and not {shown(tree)}")])
     forms = {}
@@ -136,7 +140,7 @@ def read_form(ty, tree):
     return shape
 
 
-def read_form_at(ty, path):
+def read_form_at(ty: Ty, path: str) -> Shape:
     """The shape of a type by the form file at a path. Raises FormFault."""
     return read_form(ty, read_json_file(path))
 
@@ -246,12 +250,12 @@ def _record_names(shape):
             yield name
 
 
-def is_object(shape):
+def is_object(shape: Shape) -> bool:
     """Whether what is written is always an object."""
     return shape.ty.kind != "unit" and sorts(shape) == {"object"}
 
 
-def sorts(shape):
+def sorts(shape: Shape) -> set[str]:
     """The sorts of JSON that may be written for a shape, `missing` among them."""
     kind, form = shape.ty.kind, shape.form
     if kind in ("unit", "bool", "int"):

@@ -1,14 +1,18 @@
 """Places of documents as a user's file has them."""
 
+from __future__ import annotations
+
 from dataclasses import replace as changed
+from typing import Any
 
 from ..edits import paths_of
-from ..load import NOTHING
+from ..load import NOTHING, Disagreement
+from .forms import Shape
 from .places import NotWritable, Place, key_order, to_file
 from .text import shown
 
 
-def in_file(shape, document, disagreement):
+def in_file(shape: Shape, document: Any, disagreement: Disagreement) -> Disagreement:
     """A disagreement of `load` with its place and its values as the user's file of the document has them."""
     steps, there = file_place(shape, document, list(disagreement.path))
     values = (_in_file(there, it) for it in (disagreement.by_left, disagreement.found))
@@ -24,7 +28,7 @@ def _in_file(shape, value):
         return value
 
 
-def file_place(shape, value, path):
+def file_place(shape: Shape, value: Any, path: list[Any]) -> tuple[list[Any], Shape | None]:
     """The steps in a file to the place at a path in its document, and the shape there; or None where the file writes it in a form's own way.
 
     Where the document has no such key, the steps end with the key.

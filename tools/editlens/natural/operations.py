@@ -1,6 +1,9 @@
 """The operations of a JSON Patch (RFC 6902): their form, and what they make of a tree."""
 
+from __future__ import annotations
+
 import re
+from typing import Any, Iterable, Sequence
 
 from ..json_text import place_name, read_pointer
 from .text import is_equal, shown, write_file
@@ -17,12 +20,12 @@ MOST_PLACE = 20
 class Stop(Exception):
     """Why an operation is not done. `may_wait` says that later operations may make it right."""
 
-    def __init__(self, reason, may_wait=False):
+    def __init__(self, reason: str, may_wait: bool = False) -> None:
         super().__init__(reason)
         self.may_wait = may_wait
 
 
-def operation_fault(op):
+def operation_fault(op: Any) -> str | None:
     """What is wrong with the form of an operation, or None."""
     if not isinstance(op, dict) or op.get("op") not in NAMES:
         return f"not an operation of a JSON Patch: {shown(op)}"
@@ -35,7 +38,7 @@ def operation_fault(op):
     return None
 
 
-def steps_of(place):
+def steps_of(place: str | Iterable[Any]) -> list[Any]:
     """The steps of a JSON Pointer, or of a list of steps."""
     if not isinstance(place, str):
         return list(place)
@@ -47,7 +50,7 @@ def steps_of(place):
         raise Stop(str(why)) from None
 
 
-def number_in(steps, count, has_end=False):
+def number_in(steps: Sequence[Any], count: int, has_end: bool = False) -> int:
     """The number that the last step of a pointer names in a list of some items."""
     text = str(steps[-1])
     if text == "-" and has_end:
@@ -59,7 +62,7 @@ def number_in(steps, count, has_end=False):
     return int(text)
 
 
-def value_at(tree, steps, before=()):
+def value_at(tree: Any, steps: Sequence[Any], before: Sequence[Any] = ()) -> Any:
     """What a tree has at some steps."""
     for number, step in enumerate(steps):
         here = (*before, *steps[: number + 1])
@@ -72,13 +75,13 @@ def value_at(tree, steps, before=()):
     return tree
 
 
-def need_equal(value, op, steps):
+def need_equal(value: Any, op: dict[str, Any], steps: Sequence[Any]) -> None:
     """Refuses a `test` that fails."""
     if not is_equal(value, op["value"]):
         raise Stop(f"{place_name(steps)}: the test fails, here is {shown(value)}")
 
 
-def need_apart(origin, steps):
+def need_apart(origin: list[Any], steps: list[Any]) -> None:
     """Refuses to move a value into itself."""
     if steps[: len(origin)] == origin and len(steps) > len(origin):
         raise Stop(f"{place_name(origin)}: a value cannot be moved into itself")
@@ -90,10 +93,10 @@ class Patching:
     The copies of a patch together have a bound, since each copy may double what the next one copies.
     """
 
-    def __init__(self, tree):
+    def __init__(self, tree: Any) -> None:
         self.tree, self._room = tree, MOST_COPIED
 
-    def apply(self, op):
+    def apply(self, op: dict[str, Any]) -> None:
         """Does an operation. Raises Stop where it does not apply."""
         if op["op"] == "copy":
             self._room -= len(write_file(value_at(self.tree, steps_of(op["from"]))))
@@ -102,7 +105,7 @@ class Patching:
         self.tree = patched(self.tree, op)
 
 
-def patched(tree, op):
+def patched(tree: Any, op: dict[str, Any]) -> Any:
     """A new tree, as an operation makes it of this one."""
     name, steps = op["op"], steps_of(op["path"])
     if name == "test":

@@ -1,10 +1,15 @@
 """The places of a user's file, each with the place of the document that it shows and the way of an edit there."""
 
+from __future__ import annotations
+
 from collections.abc import Mapping, Sequence
 from dataclasses import dataclass, replace as changed
+from functools import partial
+from typing import Any, Callable, Iterable, Iterator
 
-from ..edits import children_of, node_at, paths_of
+from ..edits import children_of, paths_of
 from ..json_text import pointer
+from ..plans import need_node
 from .forms import Shape
 from .text import read_file, read_number, shown, write_file
 
@@ -14,11 +19,11 @@ class NotWritable(ValueError):
 
     side = None
 
-    def __init__(self, path, reason):
+    def __init__(self, path: Iterable[Any], reason: str) -> None:
         steps = [it for name, place in path for it in (("items", place) if name == "mod" and isinstance(place, list) else (place,))]
         super().__init__(f"{pointer(steps) or '(the document)'}: {reason}")
 
-    def __str__(self):
+    def __str__(self) -> str:
         said = super().__str__()
         return said if self.side is None else f"the {self.side} file could not show what comes of it: {said}"
 
@@ -34,19 +39,19 @@ class Place:
     """
 
     shape: Shape
-    value: object
+    value: Any
     path: tuple = ()
     role: str = ""
-    owner: "Place | None" = None
-    name: object = None
+    owner: Any = None
+    name: Any = None
 
-    def is_missing(self):
+    def is_missing(self) -> bool:
         """Whether the file has no such member now."""
         if self.role == "children":
             return self.owner.shape.form.get("leaf") == "missing" and not child_nodes(self)
         return not self.role and "missing" in self.shape.form and self.shape.form["missing"] in self.value
 
-    def at(self, primitive, step, shape, value, **more):
+    def at(self, primitive: str, step: Any, shape: Shape, value: Any, **more: Any) -> Place:
         """A place inside this one."""
         return Place(shape, value, (*self.path, (primitive, step)), **more)
 
@@ -57,13 +62,13 @@ class Items(Sequence):
     `held` are the shape of the contents, a call that returns the content with a number, and the keys where the items have them.
     """
 
-    def __init__(self, count, make, held=None):
+    def __init__(self, count: int, make: Callable[[int], Place], held: Any = None) -> None:
         self._count, self._make, self.held = count, make, held
 
-    def __len__(self):
+    def __len__(self) -> int:
         return self._count
 
-    def __getitem__(self, number):
+    def __getitem__(self, number: Any) -> Any:
         numbers = range(self._count)[number]
         return self._make(numbers) if isinstance(numbers, int) else [self._make(it) for it in numbers]
 
@@ -71,19 +76,19 @@ class Items(Sequence):
 class Entries(Mapping):
     """The places of the members of a map, by their keys. Each is made where it is asked for. `shape` is that of the contents."""
 
-    def __init__(self, values, make, shape):
+    def __init__(self, values: dict[str, Any], make: Callable[[str], Place], shape: Shape) -> None:
         self.values_by_key, self._make, self.shape = values, make, shape
 
-    def __len__(self):
+    def __len__(self) -> int:
         return len(self.values_by_key)
 
-    def __iter__(self):
+    def __iter__(self) -> Iterator[str]:
         return iter(self.values_by_key)
 
-    def __contains__(self, key):
+    def __contains__(self, key: object) -> bool:
         return key in self.values_by_key
 
-    def __getitem__(self, key):
+    def __getitem__(self, key: str) -> Place:
         if key not in self.values_by_key:
             raise KeyError(key)
         return self._make(key)
@@ -92,17 +97,18 @@ class Entries(Mapping):
 class Written:
     """The files of documents of one shape, one after another. What a document shares with the one before it is not written again."""
 
-    def __init__(self):
-        self._before, self._now = {}, {}
+    def __init__(self) -> None:
+        self._before: dict[Any, Any] = {}
+        self._now: dict[Any, Any] = {}
 
-    def of(self, shape, document):
+    def of(self, shape: Shape, document: Any) -> Any:
         """The user's file of a document, which is never changed later. Raises NotWritable."""
         self._now = {}
         file = written(Place(shape, document), self)
         self._before = self._now
         return file
 
-    def held(self, shape, value, key, write):
+    def held(self, shape: Shape, value: Any, key: Any, write: Callable[[], Any]) -> Any:
         """What the file has for a value that a container holds, by a call where it is new. The file has the key, too, where it is given."""
         # The value is kept with what was written, so no other one has its number meanwhile.
         name = id(value), id(shape), key
@@ -111,7 +117,7 @@ class Written:
         return found[1]
 
 
-def content(place):
+def content(place: Place) -> Place:
     """The place itself, or the content of alternatives that are written by their content alone."""
     while place.shape.is_untagged() and place.role in ("", "entry"):
         tag = next(iter(place.value))
@@ -119,7 +125,7 @@ def content(place):
     return place
 
 
-def members(place):
+def members(place: Place) -> Any:
     """What a place of a file has inside: the places of members by their names, the Items of a list, or None for a simple value.
 
     Members that are missing now are among them.
@@ -150,21 +156,21 @@ def members(place):
     return None
 
 
-def core(place):
+def core(place: Place) -> Place | None:
     """The place of the content that a form adds members to, in an object of alternatives, of a node or of a list by key. Or None."""
     shape, value = place.shape, place.value
     if place.role == "item":
         return changed(place, role="", owner=None)
     if place.role == "node" or "children" in shape.form:
         tree, path = (place.owner, place.name) if place.role == "node" else (place, [])
-        return tree.at("mod", path, tree.shape.inner["*"], tree.value["items"][node_at(tree.value["depths"], path)])
+        return tree.at("mod", path, tree.shape.inner["*"], tree.value["items"][need_node(tree.value["depths"], path)])
     if "kind" in shape.form:
         tag = next(iter(value))
         return place.at("stay", tag, shape.inner[tag], value[tag])
     return None
 
 
-def taker(place):
+def taker(place: Place) -> Place | None:
     """The map that takes the members of an object for which there is no place yet, or None."""
     place = content(place)
     inside, owner = core(place), place.owner if place.role in ("item", "node") else place
@@ -206,7 +212,7 @@ def _fields(place):
     return found
 
 
-def key_order(shape, value):
+def key_order(shape: Shape, value: Any) -> list[str]:
     """The keys of a map that is written as a list, in the order of the list."""
     if "order" not in shape.form:
         return list(value)
@@ -217,7 +223,7 @@ def key_order(shape, value):
     return listed if len(listed) == len(keys) else listed + sorted(set(keys) - set(listed), key=str.encode)
 
 
-def map_place(place):
+def map_place(place: Place) -> Place:
     """The place of the map itself of a list by key."""
     if place.shape.ty.kind == "keyed":
         return place
@@ -232,7 +238,7 @@ def _key_items(place):
     return Items(len(keys), lambda number: key_item(place, inside, shape, keys[number]), held)
 
 
-def key_item(place, inside, shape, key):
+def key_item(place: Place, inside: Place, shape: Shape, key: str) -> Place:
     """The place of the item of a list by key that has a key. `inside` is the place of the map, and `shape` that of its contents."""
     return inside.at("mod", key, shape, inside.value[key], role="item", owner=place, name=key)
 
@@ -247,10 +253,10 @@ def _node_members(place):
     return _joined(changed(place, role="node"), form, {form["children"]: changed(place, role="children")})
 
 
-def child_nodes(place):
+def child_nodes(place: Place) -> list[int]:
     """The numbers of the children of a place of the role `children`."""
     depths = place.owner.value["depths"]
-    return children_of(depths, node_at(depths, place.name))
+    return children_of(depths, need_node(depths, place.name))
 
 
 def _children(place):
@@ -273,7 +279,7 @@ _BY_ROLE = {
 }
 
 
-def written(place, known=None):
+def written(place: Place, known: Written | None = None) -> Any:
     """What the file has at a place, by a Written where there is one. Raises NotWritable."""
     place = content(place)
     if place.role in ("", "entry") and "children" in place.shape.form:
@@ -281,16 +287,20 @@ def written(place, known=None):
     inside = members(place)
     if known and isinstance(inside, Entries):
         shape, values = inside.shape, inside.values_by_key
-        return {key: known.held(shape, value, None, lambda key=key: written(inside[key], known)) for key, value in values.items()}
+        return {key: known.held(shape, value, None, partial(_written_at, inside, key, known)) for key, value in values.items()}
     if isinstance(inside, Mapping):
         return {name: written(it, known) for name, it in inside.items() if not it.is_missing()}
     if known and isinstance(inside, Items) and inside.held:
         shape, value_of, keys = inside.held
         numbers = range(len(inside))
-        return [known.held(shape, value_of(it), keys and keys[it], lambda it=it: written(inside[it], known)) for it in numbers]
+        return [known.held(shape, value_of(it), keys and keys[it], partial(_written_at, inside, it, known)) for it in numbers]
     if isinstance(inside, Items):
         return [written(it, known) for it in inside]
     return _simple(place)
+
+
+def _written_at(inside, name, known):
+    return written(inside[name], known)
 
 
 def _node_content(tree, path, item, known):
@@ -350,6 +360,6 @@ def _json(place, text):
     return tree
 
 
-def to_file(shape, document):
+def to_file(shape: Shape, document: Any) -> Any:
     """The user's file of a document. Raises NotWritable where no file of this form shows the document."""
     return written(Place(shape, document))

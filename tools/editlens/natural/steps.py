@@ -1,7 +1,10 @@
 """The steps of an edit that do to the document what one operation of a JSON Patch does to the file."""
 
+from __future__ import annotations
+
 from collections.abc import Mapping
 from dataclasses import replace as changed
+from typing import Any, Iterable
 
 from ..construct import replace_steps, set_steps, word_of
 from ..edits import act, paths_of, subtree
@@ -14,7 +17,7 @@ from .text import number_text
 BY_PRIMITIVES = "the nodes of a tree come and go by graft, prune, shift and hang, or as children where a form writes them so"
 
 
-def step(place, steps):
+def step(place: Place, steps: list[Any]) -> Place:
     """The place inside this one at the last of some steps."""
     inside = members(place)
     if isinstance(inside, Items):
@@ -25,14 +28,14 @@ def step(place, steps):
     raise Stop(f"{place_name(steps)}: there is no such place", may_wait="json" in content(place).shape.form)
 
 
-def walk(place, steps):
+def walk(place: Place, steps: list[Any]) -> Place:
     """The place at some steps."""
     for number in range(1, len(steps) + 1):
         place = step(place, steps[:number])
     return place
 
 
-def steps_for(root, file, op):
+def steps_for(root: Place, file: Any, op: dict[str, Any]) -> list[Any]:
     """The steps of one operation of a patch of a file, which the root shows. Raises Stop or DoesNotFit where there are none."""
     name, steps = op["op"], steps_of(op["path"])
     if name == "test":
@@ -49,7 +52,7 @@ def steps_for(root, file, op):
     return _moved(root, origin, steps)
 
 
-def replaced(place, value, steps):
+def replaced(place: Place, value: Any, steps: Iterable[Any]) -> list[Any]:
     """Replaces what is at a place of the file."""
     path = tuple(steps)
     if place.role in ("", "entry") and "children" in place.shape.form:

@@ -1,7 +1,10 @@
 """The JSON of users' files: every number keeps its own text, and no member of an object may come twice."""
 
+from __future__ import annotations
+
 import json
 import math
+from typing import Any, cast
 
 from ..json_text import NotJson
 
@@ -17,7 +20,9 @@ _scalar = json.JSONEncoder(ensure_ascii=False).encode
 class Number(float):
     """A number that is not a whole one, with its text as the file has it: `1.50` is not `1.5`."""
 
-    def __new__(cls, text):
+    text: str
+
+    def __new__(cls, text: str) -> Number:
         made = super().__new__(cls, text)
         made.text = text
         return made
@@ -40,7 +45,7 @@ def _members(pairs):
     return made
 
 
-def read_file(text):
+def read_file(text: str) -> Any:
     """The tree of the text of a user's file. Raises NotJson."""
     try:
         tree = json.loads(text.removeprefix("\ufeff"), parse_int=_whole, parse_float=Number, parse_constant=_constant, object_pairs_hook=_members)
@@ -52,7 +57,7 @@ def read_file(text):
     return tree
 
 
-def read_file_at(path):
+def read_file_at(path: str) -> Any:
     """The tree of a user's file at a path."""
     with open(path, "rb") as file:
         try:
@@ -61,7 +66,7 @@ def read_file_at(path):
             raise NotJson(f"{path}: {why}") from None
 
 
-def need_json(tree):
+def need_json(tree: Any) -> None:
     """Raises NotJson where a value of a Python program is not JSON, or has a text that no file may have."""
     left = [tree]
     while left:
@@ -90,7 +95,7 @@ def _need_text(text):
         raise NotJson("a text has half of a surrogate pair") from None
 
 
-def number_text(tree):
+def number_text(tree: Any) -> str | None:
     """The text of a number, or None if the tree is not a number."""
     if isinstance(tree, Number):
         return tree.text
@@ -99,7 +104,7 @@ def number_text(tree):
     return _scalar(tree) if type(tree) is float else None
 
 
-def read_number(text):
+def read_number(text: str) -> Any:
     """The number with this text, or None if it is not the text of a number of JSON."""
     try:
         tree = read_file(text)
@@ -108,7 +113,7 @@ def read_number(text):
     return tree if number_text(tree) == text else None
 
 
-def write_file(tree):
+def write_file(tree: Any) -> str:
     """The compact text of a tree, with the members of objects in byte order and each number as it was read."""
     if isinstance(tree, dict):
         return "{" + ",".join([f"{_scalar(name)}:{write_file(tree[name])}" for name in sorted(tree)]) + "}"
@@ -117,13 +122,13 @@ def write_file(tree):
     return number_text(tree) or _scalar(tree)
 
 
-def shown(tree, most=60):
+def shown(tree: Any, most: int = 60) -> str:
     """The text of a tree, cut after some characters."""
     text = write_file(tree)
     return text if len(text) <= most else text[: most - 2] + ".."
 
 
-def sort_of(tree):
+def sort_of(tree: Any) -> str:
     """The sort of a tree: null, bool, number, string, array or object."""
     if tree is None:
         return "null"
@@ -131,10 +136,11 @@ def sort_of(tree):
         return "bool"
     if isinstance(tree, (int, float)):
         return "number"
-    return {str: "string", list: "array", dict: "object"}[type(tree)]
+    names: dict[Any, str] = {str: "string", list: "array", dict: "object"}
+    return names[type(tree)]
 
 
-def is_same(one, other):
+def is_same(one: Any, other: Any) -> bool:
     """Whether two trees are the same file: numbers by their letters, members in any order."""
     if one is other:
         return True
@@ -146,7 +152,7 @@ def is_same(one, other):
     return number == number_text(other) if number else sort_of(one) == sort_of(other) and one == other
 
 
-def is_equal(one, other):
+def is_equal(one: Any, other: Any) -> bool:
     """Whether two trees are equal as RFC 6902 compares them: numbers by their values."""
     if sort_of(one) != sort_of(other):
         return False
@@ -155,11 +161,11 @@ def is_equal(one, other):
     if isinstance(one, list):
         return len(one) == len(other) and all(map(is_equal, one, other))
     if sort_of(one) == "number":
-        return number_value(number_text(one)) == number_value(number_text(other))
+        return number_value(cast(str, number_text(one))) == number_value(cast(str, number_text(other)))
     return one == other
 
 
-def number_value(text):
+def number_value(text: str) -> Any:
     """The value of a number's text: its sign, its digits without zeros around them, and its exponent. No power of ten is computed.
 
     Where the exponent is too long for that, it is the text: such a number is equal to none that is written otherwise.

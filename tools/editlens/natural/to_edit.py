@@ -5,12 +5,16 @@ operations together, the smallest place that has them all inside is replaced. In
 of the document after the edit.
 """
 
+from __future__ import annotations
+
 from dataclasses import dataclass, replace as changed
+from typing import Any
 
 from ..construct import add_step, word_of
 from ..edits import NoApply, act
 from ..json_text import NotJson
 from .documents import DoesNotFit
+from .forms import Shape
 from .operations import Patching, Stop, operation_fault, steps_of, value_at
 from .places import Place, Written, written
 from .steps import replaced, step, steps_for
@@ -21,7 +25,7 @@ from .where import resolved
 class NoCounterpart(Exception):
     """An operation of a patch that no edit makes, or that does not apply: its number, from 0, and the reason."""
 
-    def __init__(self, number, reason):
+    def __init__(self, number: int, reason: str) -> None:
         super().__init__(f"operation {number}: {reason}")
         self.number, self.reason = number, reason
 
@@ -36,11 +40,11 @@ class Part:
     steps: list
     is_around: bool
 
-    def word(self):
+    def word(self) -> list[Any]:
         """The edit of the part alone."""
         return word_of(self.steps)
 
-    def is_removal(self):
+    def is_removal(self) -> bool:
         """Whether it says itself that something goes: one `remove`, or one null in place of a value. Several operations never do."""
         op = self.ops[0]
         is_gone = op["op"] == "remove" or op["op"] in ("add", "replace") and op["value"] is None
@@ -50,18 +54,18 @@ class Part:
 class Translated:
     """The edit of a patch: its `parts` one after another, the document after it, and the file. `patch` names every place by its position."""
 
-    def __init__(self, parts, document, file):
+    def __init__(self, parts: list[Part], document: Any, file: Any) -> None:
         self.parts, self.document, self.file = parts, document, file
         self.patch = [op for part in parts for op in part.ops]
-        self.word = []
+        self.word: list[Any] = []
         for part in parts:
             for path, primitive in part.steps:
                 add_step(self.word, path, primitive)
 
 
-def to_edit(shape, document, patch, files=None):
+def to_edit(shape: Shape, document: Any, patch: Any, files: Written | None = None) -> Translated:
     """The edit that makes of the file what the patch makes of it, as Translated. `files` is a Written of the shape. Raises NoCounterpart."""
-    taking = None
+    taking: Any = None
     try:
         _need_patch(patch)
         taking = _Taking(Place(shape, document), patch, files or Written())

@@ -4,10 +4,14 @@ The patch is applied to the file before the edit, and compared with the file aft
 between two primitives is in no file, the file comes as a whole.
 """
 
+from __future__ import annotations
+
 from dataclasses import replace as changed
+from typing import Any
 
 from ..edits import act, children_of, node_at
 from ..json_text import pointer
+from .forms import Shape
 from .operations import Patching, Stop
 from .places import NotWritable, Place, Written, core, key_item, key_order, map_place, members, to_file, written
 from .text import is_same
@@ -15,7 +19,7 @@ from .text import is_same
 SIMPLE = ("unit", "bool", "int", "text", "enum")
 
 
-def to_patch(shape, document, edit, files=None):
+def to_patch(shape: Shape, document: Any, edit: Any, files: Written | None = None) -> list[Any]:
     """The patch that makes of the file what the edit makes of its document. `files` is a Written of the shape.
 
     Raises NoApply or NotAnEdit where the edit does not act on the document, and NotWritable where no file shows what it makes.

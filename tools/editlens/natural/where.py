@@ -3,7 +3,10 @@
 A name is read by the file of that moment, also between operations after which it fits no type: so a shape only says what nests.
 """
 
+from __future__ import annotations
+
 from dataclasses import dataclass
+from typing import Any
 
 from ..json_text import place_name, pointer
 from .forms import Shape, sorts
@@ -13,17 +16,18 @@ from .text import is_equal, shown, sort_of
 MOST_SHOWN = 4
 
 
-def is_where(one):
+def is_where(one: Any) -> bool:
     """Whether a step names a place by what it has."""
     return isinstance(one, dict) and set(one) == {"where"} and isinstance(one["where"], dict) and bool(one["where"])
 
 
-def resolved(shape, file, op):
+def resolved(shape: Shape, file: Any, op: dict[str, Any]) -> list[dict[str, Any]]:
     """An operation with every place by its position in the file now. A `move` may become two, since its path is read without what moves."""
     root = Spot(shape, file)
-    found = {it: _positions(root, steps_of(op[it])) for it in ("path", "from") if isinstance(op.get(it), list)}
+    found: dict[str, Any] = {it: _positions(root, steps_of(op[it])) for it in ("path", "from") if isinstance(op.get(it), list)}
     if op["op"] == "move" and "path" in found:
-        return _moves(file, op, *found["path"], steps_of(op["from"]) if "from" not in found else found["from"][0])
+        steps, named = found["path"]
+        return _moves(file, op, steps, named, steps_of(op["from"]) if "from" not in found else found["from"][0])
     return [{**op, **{it: pointer(steps) for it, (steps, _) in found.items()}}]
 
 
@@ -50,15 +54,15 @@ class Spot:
     """
 
     shape: "Shape | None"
-    tree: object
+    tree: Any
     role: str = ""
 
-    def inside(self, name):
+    def inside(self, name: Any) -> Spot:
         """The place at a name or a number of what is there."""
         shape, role = _shape_at(self.shape, self.role, self.tree, name)
         return Spot(shape, self.tree[name], role)
 
-    def is_tree(self):
+    def is_tree(self) -> bool:
         """Whether nested nodes should be here, this one being the root."""
         return self.shape is not None and self.role == "" and "children" in self.shape.form
 

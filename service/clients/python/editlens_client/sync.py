@@ -36,15 +36,14 @@ class Client:
         """Makes a hub of the programs of its views."""
         return self.ask(wire.change("PUT", wire.path_of("hub", name), "application/json", wire.write({"programs": programs, **more}), None, None))
 
-    def undo(self, name: str, count: int = 1, expected: "int | None" = None) -> Answer:
-        """Takes the last changes of a pair back."""
-        call = wire.change("POST", wire.path_of("pair", name, rest="/undo"), "application/json", wire.write({"count": count}), expected, None)
+    def undo(self, name: str, count: int = 1, expected: "int | None" = None, kind: str = "pair") -> Answer:
+        """Takes the last changes of a pair back, or of a hub, if that is the kind."""
+        call = wire.change("POST", wire.path_of(kind, name, rest="/undo"), "application/json", wire.write({"count": count}), expected, None)
         return wire.answer_of(self.ask(call))
 
-    def group(self, name: str, *entries: "tuple[str, Any]", expected: "int | None" = None) -> Answer:
-        """Sends entries of a pair, each a side and an edit, that are accepted together or not at all."""
-        line = wire.write({"group": [{"side": side, "edit": edit} for side, edit in entries]})
-        return wire.answer_of(self.ask(wire.change("POST", wire.path_of("pair", name, rest="/edits"), "application/x-ndjson", line, expected, None)))
+    def group(self, name: str, *entries: "tuple[Any, Any]", expected: "int | None" = None, kind: str = "pair") -> Answer:
+        """Sends edits that are accepted together or not at all, each behind its side; or, of a hub, behind `hub` or the number of a view."""
+        return wire.answer_of(self.ask(wire.group(kind, name, entries, expected, None)))
 
     def store(self, name: str) -> bytes:
         """The file of a store with the log of a pair."""

@@ -71,6 +71,13 @@ def change(method: str, path: str, kind: str, body: bytes, expected: "int | None
     return Call(method, path, headers, body)
 
 
+def group(kind: str, name: str, entries: "tuple[tuple[Any, Any], ...]", expected: "int | None", key: "str | None") -> Call:
+    """A request with a group."""
+    at = {"pair": "side", "hub": "at"}[kind]
+    line = write({"group": [{at: place, "edit": edit} for place, edit in entries]})
+    return change("POST", path_of(kind, name, rest="/edits"), "application/x-ndjson", line, expected, key)
+
+
 def read(status: int, body: bytes) -> Any:
     """The tree of a response. Raises Refusal."""
     try:

@@ -11,7 +11,8 @@ use Rattle.lens_forms.specs.Measures.{form_parts, rows_parts}
 use Rattle.lens_core.specs.Complements.{CompTree, nil, comp_tree, comps_tree, comps_of, comp_list, Fits, AllFit}
 use Rattle.lens_core.proofs.ComplementTrees.{comps_of-comp_list, comp_count-length, comp_tree-hold}
 use Rattle.value_json.proofs.Writing.{push_item}
-use Rattle.complement_file.specs.ComplementJson.{tree_of_complement, one, two, place_items, place_members, row_items}
+use Rattle.complement_file.specs.ComplementJson.{tree_of_complement, place_items, place_members, row_items}
+use Rattle.value_json.specs.SmallTrees.{one_member, array_of_two}
 use Rattle.complement_file.proofs.Arms.{arm_is_there, arm_fits, arm_typed, arm_smaller, arm_tree_is}
 use Rattle.complement_file.proofs.Levels.{each_typed, keyed_typed, tree_typed, each_fits, keyed_fits, tree_fits, if_tree}
 use Rattle.complement_file.proofs.Places.{place_fits, items_of_places, put_place}
@@ -181,7 +182,7 @@ write_record-returns t c =
     let l = c.loop-row in
     let items = view-Array l.items ∙ ap array (at_last rows contents l.row-index (length l.items.items) (map view l.items.items) c.loop-row-test.false l.invariant
     ∙ ap₂ row_items c.as_slice-row-items.ensures (comps_of-comp_list (comps_tree c.args.comps.now))) in
-    if_tree _ _ _ c.one_member.ensures (ap (one (codes "rec")) items)
+    if_tree _ _ _ c.one_member.ensures (ap (one_member (codes "rec")) items)
 
 -- ---- alternatives
 
@@ -204,4 +205,4 @@ write_tagged-returns t c =
     let found = sym (rw c.as_str-name.ensures at c.in-Some.ensures) in
     let name = c.in_ok-write_text.ensures ∙ ap string c.as_str-name.ensures in
     let part = c.in_ok-part.ensures ∙ sym (arm_tree_is tag arms _ inner found) in
-    if_tree _ _ _ c.write_pair.ensures (ap₂ (λ x y. one (codes "alt") (two x y)) name part)
+    if_tree _ _ _ c.write_pair.ensures (ap₂ (λ x y. one_member (codes "alt") (array_of_two x y)) name part)

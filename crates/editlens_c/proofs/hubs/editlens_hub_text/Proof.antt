@@ -1,42 +1,46 @@
--- `editlens_hub_text` meets its contract: a walk of its MIR by hand. The hub is lent to `texted` for a lifetime that is made for the
--- call, and comes back at its last value. The buffer is handed on for good.
-use Rattle.std.proofs.Common.{ℕ, List, [], ◌∷◌, ◌++◌, refl}
+-- `editlens_hub_text` meets its contract: a walk of its MIR by hand. At null `untouched` answers. Else the slot is lent to `texted` for a lifetime that
+-- is made for the call, and comes back at its last value. The buffer is handed on for good.
+use Rattle.std.proofs.Common.{◌≡◌, ℕ, List, [], ◌∷◌, ◌++◌, refl, subst, lit<}
 use Rattle.std.proofs.raw_atomic.Walks.{proved}
 use mir.Syntax.{named}
 use mir.Val.{vptr}
 use base.Fraction.{full_share}
 use base.Logic.{id⊢}
 use base.Fml.{GName, ftrue, fsep, fex, flft, flent}
-use prog.Wp.{WpFn}
+use prog.Wp.{WpFn, Wp, after_seq}
 use types.SemTy.{Body}
-use types.Kit.{‵, raw, ◌⊛◌, some, later, prop, at_ret, ◌$◌, ◌∵◌, !, qed, move, keep, drop, use1, use2, use3, split, join, fsplit, fjoin, fpack, feq_l, pick, await, regoal, suffices, group, done}
+use types.Kit.{‵, raw, ◌⊛◌, some, later, prop, at_ret, any_q, post, feq_l, ◌$◌, ◌∵◌, !, qed, move, keep, drop, use1, use2, use3, split, join, fsplit, fjoin, fpack, pick, await, regoal, suffices, group, done}
 use types.Tokens.{lft_new, lft_end}
 use types.Part.{agg, sub, whole}
-use types.Run.{of_opd, addr, stop, fld, hop, from, no_more, and_then, first, blocks, exec, returns, enter}
+use types.Run.{of_opd, bin, lit, addr, stop, fld, hop, from, no_more, and_then, first, blocks, branches, skips, exec, returns, returns_within, enter}
 use types.ByLocal.{alloc_all, pass_all, free_all, look_at, look_in_at, get, get_in, through, sets, sets_last, lands_as, env}
 use contract.Monad.{fact}
 use contract.Running.{tables}
 use denote.Exit.{yes}
-use denote.Builtin.{u8}
 use denote.Laws.{Is, shows}
 use denote.Lend.{lends_ref, ref_back}
 use denote.Memory.{mem}
-use denote.RawPtr.{Ptr, RawPtr, block_ptr, in_a_block, rawptr_vals, rawptr_Tells}
+use denote.RawPtr.{Ptr, RawPtr, block_ptr, null_ptr, lies_at, Testable, tests_null, rawptr_vals, rawptr_Tells}
 use denote.Ref.{MutBor, MutRef, mut_vals}
+use denote.Builtin.{u8}
 use denote.Signature.{plain}
 use denote.Slice.{MutSlice, mut_slice_vals, mut_slice_Tells}
 use denote.Steps.{nothing, heard, peeks}
 use denote.Triple.Call.{calls_at}
-use denote.Triple.Clauses.{lasts}
+use denote.Triple.Clauses.{Lasts, lasts}
 use denote.Triple.Spec.{triple_of}
 use denote.Triple.Table.{framed}
 use denote.Triple.Walked.{Stays, stay_dropped, gave_slice, walk_of, Goes-dropped, Goes-gave_slice, ends_at}
-use Rattle.kept_hubs.specs.declared.kept.KeptHub.{KeptHub}
-use Rattle.kept_hubs.specs.contracts.kept.KeptHub.{the_row as R}
-use Rattle.editlens_c.specs.HubKeeping.{keeps_hub, HubWrites}
+use Rattle.editlens_c.proofs.Pointers.{by_pointer, then_of, second_of}
+use Rattle.editlens_c.specs.declared.hub_slot.HubSlot.{HubSlot}
+use Rattle.editlens_c.specs.contracts.hub_slot.HubSlot.{the_row as R}
+use Rattle.editlens_c.specs.HubKeeping.{hub_slot_at, HubWrites}
+use Rattle.editlens_c.specs.Answers.{IsUntouched}
 use Rattle.editlens_c.specs.declared.answer.Answer.{Answer}
 use Rattle.editlens_c.specs.contracts.answer.Answer.{the_row as Out}
 use Rattle.editlens_c.proofs.answer.Answer.TheLaws as out
+use Rattle.editlens_c.specs.contracts.answer.untouched as n
+use Rattle.editlens_c.proofs.answer.untouched.Met.{met as nothing_met}
 use Rattle.editlens_c.specs.contracts.hubs.editlens_hub_text as f
 use Rattle.editlens_c.specs.contracts.hubs.texted as g
 use Rattle.editlens_c.proofs.hubs.texted.Met.{met}
@@ -53,49 +57,77 @@ editlens_hub_text_spec 𝓤 𝓛 𝓜 𝓡 wired =
     (Goes-dropped 𝓛 1 (plain (λ _. RawPtr)) yes (λ κs x w. refl), (Goes-gave_slice 𝓛 1 0 tt (plain (λ _. u8)), tt))
     f.Key.name code.function (code.unfolded 𝓤 𝓛.H 𝓜 𝓡 wired)
     (λ κs. (rawptr_vals, (mut_slice_vals, tt))) (λ κs. (rawptr_Tells, (mut_slice_Tells (named 0) κs.0 u8, tt))) (λ κs qs bounds a s are.
-    let κ = κs.0 in let q = qs.0 in let buf = a.1.0 in let sv = mut_slice_vals buf in
+    let buf = a.1.0 in let sv = mut_slice_vals buf in
     let y : Ptr → W.Ghost = λ p. ((κs, qs, bounds, (p, (buf, tt)), (rawptr_vals p, (sv, tt))), s) in
-    let count = are.1.0.0.1.0 in
-    qed 𝓛 (((‵ (flft κ q) ⊛ ‵ ftrue) ⊛ ‵ (RawPtr.own_val a.0 (rawptr_vals a.0)) ⊛ ‵ ((MutSlice (named 0) κ u8).own_val buf sv) ⊛ ‵ ftrue) ∷ ‵ (keeps_hub a.0 s) ∷ []) ∵ move ! (1 ∷ []) $
-    in_a_block ! a.0 (λ p. keeps_hub p s) (id⊢ 𝓤 _) (λ b o e.
-    regoal ! (λ p. prop (WpFn 𝓤 𝓛.H 𝓣.C 𝓣.Λ code.function (rawptr_vals p ++ sv) (W.post (y p)))) e refl $
-    -- [the hub; the token and what the parameters own]
-    move ! (1 ∷ []) $ split ! $ move ! (1 ∷ []) $ split ! $ drop ! $ split ! $ move ! (2 ∷ []) $ split ! $ keep ! (0 ∷ 2 ∷ 4 ∷ []) $
-    -- [the token; the buffer; the hub]
-    enter ! _ _ _ _ _ $ alloc_all ! (λ l. pass_all ! refl ((tt, tt), ((tt, (tt, (record { fits = count }, tt))), tt)) $
+    let N = triple_of 𝓛 n.signature (n.spec 𝓛 𝓜.mem 𝓡.returns) in let x : N.Ghost = ((κs, qs, tt, (buf, tt), (sv, tt)), tt) in
+    qed 𝓛 (((‵ (flft κs.0 qs.0) ⊛ ‵ ftrue) ⊛ ‵ (RawPtr.own_val a.0 (rawptr_vals a.0)) ⊛ ‵ ((MutSlice (named 0) κs.0 u8).own_val buf sv) ⊛ ‵ ftrue) ∷ (raw (fact 𝓤 (Testable a.0)) ⊛ ‵ (hub_slot_at a.0 s)) ∷ []) ∵ move ! (1 ∷ []) $ split ! $ heard ! _ (λ may.
+    by_pointer ! a.0 (λ p. hub_slot_at p s)
+    (λ e. regoal ! (λ p. prop (WpFn 𝓤 𝓛.H 𝓣.C 𝓣.Λ code.function (rawptr_vals p ++ sv) (W.post (y p)))) e refl $
+    -- [the slot; the tokens and what the parameters own]
+    move ! (1 ∷ []) $ split ! $ move ! (1 ∷ []) $ split ! $ drop ! $ keep ! (0 ∷ 1 ∷ []) $
+    -- [the buffer; the tokens]
+    enter ! _ _ _ _ _ $ alloc_all ! (λ l. pass_all ! refl ((tt, record { fits = lit< tt }), ((tt, (tt, (record { fits = are.1.0.0.1.0 }, tt))), tt)) $
+    sets ! (of_opd ! (get ! refl)) refl (tt, record { fits = lit< tt }) $
+    sets ! (bin ! (get ! refl) (lit ! tt) (tests_null null_ptr (subst Testable e may))) refl (tt, tt) $
+    first ! $ branches ! (get ! refl) (λ t. first ! $ blocks ! $ sets ! (addr ! (from ! (fld ! refl (hop ! (look_in_at ! 2 (sub ! 0 refl (whole !))) (stop !))))) refl (tt, tt) $
+    sets_last ! (agg ! (and_then ! (get ! refl) (and_then ! (get_in ! (fld ! refl (stop !)) (sub ! 1 refl (whole !))) (no_more !)))) refl (tt, (tt, (record { fits = are.1.0.0.1.0 }, tt))) $
+    exec ! 𝓣.C 𝓣.Λ (env code.Mir.locals l) (second_of (then_of code.Mir.s-3)) (any_q (after_seq 𝓤 𝓛.H (Wp 𝓤 𝓛.H 𝓣.C 𝓣.Λ (env code.Mir.locals l) code.Mir.t-4 (post 𝓤 𝓛.H (at_ret (env code.Mir.locals l) (W.post (y null_ptr))))) (post 𝓤 𝓛.H (at_ret (env code.Mir.locals l) (W.post (y null_ptr)))))) $
+    sets ! (of_opd ! (get ! refl)) refl (tt, (tt, (record { fits = are.1.0.0.1.0 }, tt))) $
+    move ! (1 ∷ 0 ∷ []) $ join ! $ nothing ! $ move ! (1 ∷ 0 ∷ []) $ use2 𝓛 (raw (N.pre x)) (id⊢ 𝓤 _) $
+    calls_at ! (framed 𝓤 𝓛.H 𝓜 𝓣) N (nothing_met 𝓤 𝓛 𝓜 𝓡 (code.calls-editlens_c::answer::untouched 𝓡.env wired)) x (and_then ! (get ! refl) (no_more !)) (λ v.
+    use1 𝓛 (later (some (λ (r : Answer). ((‵ (flft κs.0 qs.0) ⊛ ‵ ftrue) ⊛ ‵ (Out.own_val r (v ∷ []))) ⊛
+    some (λ (ws : List ℕ × Unit {0}). ‵ (lasts n.ended x.0.0 x.0.3 ws) ⊛ raw (fact 𝓤 (IsUntouched r buf.now ws.0)))))) (id⊢ 𝓤 _) $
+    await ! tt $ pick ! (λ r. split ! $ split ! $
+    -- [the tokens; the result; the last values]
+    move ! (2 ∷ []) $ pick ! (λ ws. split ! $ move ! (1 ∷ []) $ heard ! _ (λ told. fsplit ! $ fsplit ! $ fsplit ! $ move ! (1 ∷ []) $ feq_l ! (λ same. fjoin ! $
+    -- [the buffer; nothing; the tokens; the result]
+    move ! (3 ∷ []) $ peeks ! Out (Is Out) (shows 𝓛 Out) r (v ∷ []) (λ is. lands_as ! refl refl ((out.the_row_laws.lawful 𝓛).typed r _ is).0 $
+    returns_within ! (W.post (y null_ptr)) refl (look_at ! 0 refl) $ free_all ! refl $ keep ! (0 ∷ 1 ∷ 3 ∷ []) $
+    -- [the result; the buffer; the tokens]
+    nothing ! $ fpack ! (IsUntouched r buf.now ws.0) (λ _. ftrue) told $
+    suffices ! _ (ends_at 𝓛 f.ended stayed c (y null_ptr) v r (tt, (ws.0, tt)) (tt, (same, tt))) $
+    move ! (2 ∷ []) $ nothing ! $ move ! (1 ∷ 0 ∷ []) $ join ! $ nothing ! $ join ! $ move ! (3 ∷ 0 ∷ 2 ∷ []) $ group ! 3 $ done !)))))))
+    (λ t. absurd t)))
+    (λ b o e. regoal ! (λ p. prop (WpFn 𝓤 𝓛.H 𝓣.C 𝓣.Λ code.function (rawptr_vals p ++ sv) (W.post (y p)))) e refl $
+    move ! (1 ∷ []) $ split ! $ move ! (1 ∷ []) $ split ! $ drop ! $
+    -- [the buffer; the tokens; the slot]
+    enter ! _ _ _ _ _ $ alloc_all ! (λ l. pass_all ! refl ((tt, tt), ((tt, (tt, (record { fits = are.1.0.0.1.0 }, tt))), tt)) $
+    sets ! (of_opd ! (get ! refl)) refl (tt, tt) $
+    sets ! (bin ! (get ! refl) (lit ! tt) (tests_null (block_ptr b o) (subst Testable e may))) refl (tt, tt) $
+    first ! $ branches ! (get ! refl) (λ t. absurd t) (λ t. skips ! $
+    exec ! 𝓣.C 𝓣.Λ (env code.Mir.locals l) code.Mir.t-4 (at_ret (env code.Mir.locals l) (W.post (y (block_ptr b o)))) $
     first ! $ blocks ! $ sets ! (of_opd ! (get ! refl)) refl (tt, tt) $ sets ! (of_opd ! (get ! refl)) refl (tt, tt) $
     sets_last ! (addr ! (through ! refl (stop !))) refl (tt, tt) $
-    exec ! 𝓣.C 𝓣.Λ (env code.Mir.locals l) code.Mir.t-2 (at_ret (env code.Mir.locals l) (W.post (y (block_ptr b o)))) $
+    exec ! 𝓣.C 𝓣.Λ (env code.Mir.locals l) code.Mir.t-5 (at_ret (env code.Mir.locals l) (W.post (y (block_ptr b o)))) $
     sets ! (of_opd ! (get ! refl)) refl (tt, tt) $
     first ! $ blocks ! $ sets ! (addr ! (from ! (fld ! refl (hop ! (look_in_at ! 2 (sub ! 0 refl (whole !))) (stop !))))) refl (tt, tt) $
-    sets_last ! (agg ! (and_then ! (get ! refl) (and_then ! (get_in ! (fld ! refl (stop !)) (sub ! 1 refl (whole !))) (no_more !)))) refl (tt, (tt, (record { fits = count }, tt))) $
-    exec ! 𝓣.C 𝓣.Λ (env code.Mir.locals l) code.Mir.t-4 (at_ret (env code.Mir.locals l) (W.post (y (block_ptr b o)))) $
-    sets ! (of_opd ! (get ! refl)) refl (tt, (tt, (record { fits = count }, tt))) $
+    sets_last ! (agg ! (and_then ! (get ! refl) (and_then ! (get_in ! (fld ! refl (stop !)) (sub ! 1 refl (whole !))) (no_more !)))) refl (tt, (tt, (record { fits = are.1.0.0.1.0 }, tt))) $
+    exec ! 𝓣.C 𝓣.Λ (env code.Mir.locals l) code.Mir.t-7 (at_ret (env code.Mir.locals l) (W.post (y (block_ptr b o)))) $
+    sets ! (of_opd ! (get ! refl)) refl (tt, (tt, (record { fits = are.1.0.0.1.0 }, tt))) $
     lft_new ! tt (λ α. move ! (3 ∷ []) $
     use1 𝓛 (later (some (λ (δ : GName). ‵ ((MutRef (named 0) (α ∷ []) R).own_val (record { ref_ptr = (b, o); ghost_name = δ; now = s }) (vptr b o ∷ [])) ⊛ ‵ (flent (α ∷ []) (Body (mem R) b o δ)))))
     (lends_ref 𝓛 R (named 0) (α ∷ []) s b o) $ await ! tt $ pick ! (λ δ. split ! $
-    -- [the loan; the lender's part; the token of α; that of κ; the buffer]
+    -- [the loan; the lender's part; the token of α; the buffer; the tokens]
     let G = triple_of 𝓛 g.signature (g.spec 𝓛 𝓜.mem 𝓡.returns) in
-    let lent : MutBor KeptHub = record { ref_ptr = (b, o); ghost_name = δ; now = s } in
-    let z : G.Ghost = (((α ∷ [], (κ, tt)), (full_share, (q, tt)), tt, (lent, (buf, tt)), (mut_vals lent, (sv, tt))), tt) in
-    nothing ! $ move ! (5 ∷ 0 ∷ []) $ join ! $ move ! (1 ∷ 0 ∷ []) $ join ! $
-    nothing ! $ move ! (4 ∷ 0 ∷ []) $ join ! $ move ! (3 ∷ 0 ∷ []) $ join ! $ join ! $
+    let lent : MutBor HubSlot = record { ref_ptr = (b, o); ghost_name = δ; now = s } in
+    let z : G.Ghost = (((α ∷ [], κs), (full_share, qs), tt, (lent, (buf, tt)), (mut_vals lent, (sv, tt))), tt) in
+    move ! (0 ∷ 3 ∷ []) $ join ! $ move ! (2 ∷ 3 ∷ 0 ∷ []) $ join ! $ join ! $
     nothing ! $ move ! (1 ∷ 0 ∷ []) $ use2 𝓛 (raw (G.pre z)) (id⊢ 𝓤 _) $
     calls_at ! (framed 𝓤 𝓛.H 𝓜 𝓣) G (met 𝓤 𝓛 𝓜 𝓡 (code.calls-editlens_c::hubs::texted 𝓡.env wired)) z
     (and_then ! (get ! refl) (and_then ! (get ! refl) (no_more !))) (λ v.
-    use1 𝓛 (later (some (λ (r : Answer). ((‵ (flft (α ∷ []) full_share) ⊛ ‵ (flft κ q) ⊛ ‵ ftrue) ⊛ ‵ (Out.own_val r (v ∷ []))) ⊛
-    some (λ (ws : KeptHub × (List ℕ × Unit {0})). ‵ (lasts g.ended z.0.0 z.0.3 ws) ⊛ raw (fact 𝓤 (HubWrites s r buf.now ws.1.0 ws.0)))))) (id⊢ 𝓤 _) $
+    use1 𝓛 (later (some (λ (r : Answer). ((‵ (flft (α ∷ []) full_share) ⊛ ‵ (flft κs.0 qs.0) ⊛ ‵ ftrue) ⊛ ‵ (Out.own_val r (v ∷ []))) ⊛
+    some (λ (ws : HubSlot × (List ℕ × Unit {0})). ‵ (lasts g.ended z.0.0 z.0.3 ws) ⊛ raw (fact 𝓤 (HubWrites s r buf.now ws.1.0 ws.0)))))) (id⊢ 𝓤 _) $
     await ! tt $ pick ! (λ r. split ! $ split ! $ split ! $ lft_end ! tt $
-    -- [α is over; the token; the result; the last values; the lender's part]
+    -- [α is over; the tokens; the result; the last values; the lender's part]
     move ! (3 ∷ []) $ pick ! (λ ws. split ! $ move ! (1 ∷ []) $ heard ! _ (λ told. fsplit ! $ fsplit ! $
-    -- [the loan's last value; its borrow; what is said of the buffer; α is over; the token; the result; the lender's part]
+    -- [the loan's last value; its borrow; what is said of the buffer; α is over; the tokens; the result; the lender's part]
     move ! (3 ∷ 6 ∷ 0 ∷ []) $ use3 𝓛 (later (‵ ((mem R).own_at ws.0 b o))) (ref_back 𝓛 R (α ∷ []) δ ws.0 b o) $ await ! tt $
     move ! (2 ∷ []) $ fsplit ! $ fsplit ! $ fsplit ! $ move ! (1 ∷ []) $ feq_l ! (λ same. fjoin ! $
-    -- [the buffer; nothing; the hub; the borrow; the token; the result]
+    -- [the buffer; nothing; the slot; the borrow; the tokens; the result]
     move ! (5 ∷ []) $ peeks ! Out (Is Out) (shows 𝓛 Out) r (v ∷ []) (λ is. lands_as ! refl refl ((out.the_row_laws.lawful 𝓛).typed r _ is).0 $
     returns ! (look_at ! 0 refl) $ free_all ! refl $ keep ! (3 ∷ 1 ∷ 5 ∷ 0 ∷ []) $
-    -- [the hub; the buffer; the token; the result]
+    -- [the slot; the buffer; the tokens; the result]
     nothing ! $ fpack ! (HubWrites s r buf.now ws.1.0 ws.0) (λ _. ftrue) told $ fjoin ! $
-    fpack ! KeptHub (λ (x : KeptHub). fsep (fex (HubWrites s r buf.now ws.1.0 x) (λ _. ftrue)) (keeps_hub (block_ptr b o) x)) ws.0 $
+    fpack ! HubSlot (λ (x : HubSlot). fsep (fex (HubWrites s r buf.now ws.1.0 x) (λ _. ftrue)) (lies_at R full_share (block_ptr b o) x)) ws.0 $
     suffices ! _ (ends_at 𝓛 f.ended stayed c (y (block_ptr b o)) v r (tt, (ws.1.0, tt)) (tt, (same, tt))) $
-    move ! (1 ∷ []) $ nothing ! $ move ! (1 ∷ 0 ∷ []) $ join ! $ nothing ! $ join ! $ move ! (2 ∷ 0 ∷ 3 ∷ []) $ group ! 3 $ done !)))))))))))
+    move ! (1 ∷ []) $ nothing ! $ move ! (1 ∷ 0 ∷ []) $ join ! $ nothing ! $ join ! $ move ! (2 ∷ 0 ∷ 3 ∷ []) $ group ! 3 $ done !)))))))))))))

@@ -1,9 +1,9 @@
--- `editlens_session_show` meets its contract: a walk of its MIR by hand. The session is lent to `shown` for a lifetime that is made
--- for the call, and comes back at its last value.
-use Rattle.std.proofs.Common.{List, [], ◌∷◌, ◌++◌, refl}
+-- `editlens_session_show` meets its contract: a walk of its MIR by hand. At null `not_open` answers. Else the slot is lent to `shown` for a lifetime
+-- that is made for the call, and comes back at its last value.
+use Rattle.std.proofs.Common.{◌≡◌, ℕ, List, [], ◌∷◌, ◌++◌, refl, subst, lit<}
 use Rattle.std.proofs.raw_atomic.Walks.{proved}
-use mir.Syntax.{named, w32}
-use mir.Val.{Val, vptr}
+use mir.Syntax.{named, w8, w32, w64}
+use mir.Val.{Val, vptr, vint}
 use base.Fraction.{full_share}
 use base.Logic.{id⊢}
 use base.Fml.{GName, ftrue, fsep, fex, flft, flent}
@@ -11,7 +11,7 @@ use prog.Wp.{WpFn}
 use types.SemTy.{Body}
 use types.Kit.{‵, raw, ◌⊛◌, some, later, prop, at_ret, ◌$◌, ◌∵◌, !, qed, move, keep, drop, use1, use2, use3, split, join, fsplit, fjoin, fpack, pick, await, regoal, suffices, group, done}
 use types.Tokens.{lft_new, lft_end}
-use types.Run.{of_opd, addr, stop, no_more, and_then, first, blocks, exec, returns, enter}
+use types.Run.{of_opd, bin, lit, addr, stop, no_more, and_then, first, blocks, branches, skips, exec, returns, returns_within, enter}
 use types.ByLocal.{alloc_all, pass_all, free_all, look_at, get, through, sets, sets_last, lands_as, env}
 use contract.Monad.{fact}
 use contract.Running.{tables}
@@ -20,11 +20,11 @@ use denote.Builtin.{u32}
 use denote.Laws.{Is, shows}
 use denote.Lend.{lends_ref, ref_back}
 use denote.Memory.{mem}
-use denote.Plain.{uint_vals, uint_Tells}
-use denote.RawPtr.{Ptr, RawPtr, block_ptr, in_a_block, rawptr_vals, rawptr_Tells}
+use denote.Plain.{uint_vals, uint_Tells, uint_Makes, uint_Lawful}
+use denote.RawPtr.{Ptr, RawPtr, block_ptr, null_ptr, lies_at, Testable, tests_null, rawptr_vals, rawptr_Tells}
 use denote.Ref.{MutBor, MutRef, mut_vals}
 use denote.Signature.{plain}
-use denote.Steps.{nothing, heard, peeks}
+use denote.Steps.{nothing, heard, owned, peeks}
 use denote.Triple.Call.{calls_at}
 use denote.Triple.Clauses.{Lasts, lasts}
 use denote.Triple.Spec.{triple_of}
@@ -33,12 +33,16 @@ use denote.Triple.Walked.{Stays, stay_dropped, walk_of, Goes-dropped, ends_at}
 use Rattle.std_heap.specs.declared.Global.{Global}
 use Rattle.std_heap.specs.contracts.Global.{the_row as Heap}
 use Rattle.std_heap.proofs.Global.TheLaws as heap
-use Rattle.kept_sessions.specs.declared.kept.Kept.{Kept}
-use Rattle.kept_sessions.specs.contracts.kept.Kept.{the_row as R}
-use Rattle.editlens_c.specs.Keeping.{keeps, ShowsTo}
+use Rattle.editlens_c.proofs.Pointers.{by_pointer}
+use Rattle.editlens_c.specs.declared.slot.Slot.{Slot}
+use Rattle.editlens_c.specs.contracts.slot.Slot.{the_row as R}
+use Rattle.editlens_c.specs.Keeping.{slot_at, Shows}
+use Rattle.editlens_c.specs.Answers.{IsNotOpen}
 use Rattle.editlens_c.specs.declared.answer.Answer.{Answer}
 use Rattle.editlens_c.specs.contracts.answer.Answer.{the_row as Out}
 use Rattle.editlens_c.proofs.answer.Answer.TheLaws as out
+use Rattle.editlens_c.specs.contracts.answer.not_open as n
+use Rattle.editlens_c.proofs.answer.not_open.Met.{met as nothing_met}
 use Rattle.editlens_c.specs.contracts.sessions.editlens_session_show as f
 use Rattle.editlens_c.specs.contracts.sessions.shown as g
 use Rattle.editlens_c.proofs.sessions.shown.Met.{met}
@@ -58,45 +62,64 @@ editlens_session_show_spec 𝓤 𝓛 𝓜 𝓡 wired =
     (Goes-dropped 𝓛 0 (plain (λ _. Heap)) yes (λ κs x w. refl), (Goes-dropped 𝓛 0 (plain (λ _. RawPtr)) yes (λ κs x w. refl), (Goes-dropped 𝓛 0 (plain (λ _. u32)) yes (λ κs x w. refl), tt)))
     f.Key.name code.function (code.unfolded 𝓤 𝓛.H 𝓜 𝓡 wired)
     (λ κs. (heap_vals, (rawptr_vals, (uint_vals w32, tt)))) (λ κs. (heap.lowers.val_is, (rawptr_Tells, (uint_Tells w32, tt)))) (λ κs qs bounds a s are.
-    let h = a.0 in let n = a.1.1.0 in let hv = heap_vals h in
-    let y : Ptr → W.Ghost = λ p. ((κs, qs, bounds, (h, (p, (n, tt))), (hv, (rawptr_vals p, (uint_vals w32 n, tt)))), s) in
-    let fits = ((heap.the_row_laws.lawful 𝓛).typed h hv are.0).0 in let small = are.1.1.0.1 in
-    qed 𝓛 ((‵ ftrue ⊛ ‵ (Heap.own_val h hv) ⊛ ‵ (RawPtr.own_val a.1.0 (rawptr_vals a.1.0)) ⊛ ‵ (u32.own_val n (uint_vals w32 n)) ⊛ ‵ ftrue) ∷ ‵ (keeps a.1.0 s) ∷ []) ∵ move ! (1 ∷ []) $
-    in_a_block ! a.1.0 (λ p. keeps p s) (id⊢ 𝓤 _) (λ b o e.
-    regoal ! (λ p. prop (WpFn 𝓤 𝓛.H 𝓣.C 𝓣.Λ code.function (hv ++ (rawptr_vals p ++ uint_vals w32 n)) (W.post (y p)))) e refl $
-    -- [the session; what the parameters own]
-    move ! (1 ∷ []) $ split ! $ move ! (1 ∷ []) $ split ! $ move ! (1 ∷ []) $ split ! $ drop ! $ split ! $ keep ! (4 ∷ 2 ∷ 0 ∷ []) $
-    -- [the session; what the heap owns; the number]
-    enter ! _ _ _ _ _ $ alloc_all ! (λ l. pass_all ! refl (fits, ((tt, tt), ((tt, record { fits = small }), tt))) $
-    sets ! (of_opd ! (get ! refl)) refl fits $
-    first ! $ blocks ! $ sets ! (of_opd ! (get ! refl)) refl (tt, tt) $ sets ! (of_opd ! (get ! refl)) refl (tt, tt) $
+    let h = a.0 in let hv = heap_vals h in let fits = ((heap.the_row_laws.lawful 𝓛).typed h hv are.0).0 in
+    let part = a.1.1.0 in let v0 = uint_vals w32 part in
+    let y : Ptr → W.Ghost = λ p. ((κs, qs, bounds, (h, (p, (part, tt))), (hv, (rawptr_vals p, (v0, tt)))), s) in
+    let N = triple_of 𝓛 n.signature (n.spec 𝓛 𝓜.mem 𝓡.returns) in let x : N.Ghost = ((tt, tt, tt, tt, tt), tt) in
+    qed 𝓛 ((‵ ftrue ⊛ ‵ (Heap.own_val h hv) ⊛ ‵ (RawPtr.own_val a.1.0 (rawptr_vals a.1.0)) ⊛ ‵ (u32.own_val part v0) ⊛ ‵ ftrue) ∷ (raw (fact 𝓤 (Testable a.1.0)) ⊛ ‵ (slot_at a.1.0 s)) ∷ []) ∵ move ! (1 ∷ []) $ split ! $ heard ! _ (λ may.
+    by_pointer ! a.1.0 (λ p. slot_at p s)
+    (λ e. regoal ! (λ p. prop (WpFn 𝓤 𝓛.H 𝓣.C 𝓣.Λ code.function (hv ++ (rawptr_vals p ++ v0)) (W.post (y p)))) e refl $
+    -- [the slot; the tokens and what the parameters own]
+    move ! (1 ∷ []) $ split ! $ move ! (1 ∷ []) $ split ! $ move ! (1 ∷ []) $ split ! $ drop ! $ keep ! (2 ∷ []) $
+    -- [the tokens]
+    enter ! _ _ _ _ _ $ alloc_all ! (λ l. pass_all ! refl (fits, ((tt, record { fits = lit< tt }), ((tt, record { fits = are.1.1.0.1 }), tt))) $
+    sets ! (of_opd ! (get ! refl)) refl (tt, record { fits = lit< tt }) $
+    sets ! (bin ! (get ! refl) (lit ! tt) (tests_null null_ptr (subst Testable e may))) refl (tt, tt) $
+    first ! $ branches ! (get ! refl) (λ t. nothing ! $ nothing ! $ join ! $ nothing ! $ move ! (1 ∷ 0 ∷ []) $ use2 𝓛 (raw (N.pre x)) (id⊢ 𝓤 _) $
+    calls_at ! (framed 𝓤 𝓛.H 𝓜 𝓣) N (nothing_met 𝓤 𝓛 𝓜 𝓡 (code.calls-editlens_c::answer::not_open 𝓡.env wired)) x (no_more !) (λ v.
+    use1 𝓛 (later (some (λ (r : Answer). (‵ ftrue ⊛ ‵ (Out.own_val r (v ∷ []))) ⊛ some (λ (ws : Lasts n.ended x.0.0 x.0.3). ‵ (lasts n.ended x.0.0 x.0.3 ws) ⊛ raw (fact 𝓤 (IsNotOpen r)))))) (id⊢ 𝓤 _) $
+    await ! tt $ pick ! (λ r. split ! $ split ! $ drop ! $ move ! (1 ∷ []) $ pick ! (λ ws. split ! $ drop ! $ heard ! _ (λ told.
+    peeks ! Out (Is Out) (shows 𝓛 Out) r (v ∷ []) (λ is. lands_as ! refl refl ((out.the_row_laws.lawful 𝓛).typed r _ is).0 $
+    returns_within ! (W.post (y null_ptr)) refl (look_at ! 0 refl) $ free_all ! refl $
+    -- [the result; the tokens]
+    nothing ! $ fpack ! (IsNotOpen r) (λ _. ftrue) told $
+    suffices ! _ (ends_at 𝓛 f.ended stayed c (y null_ptr) v r (tt, (tt, (tt, tt))) (tt, (tt, (tt, tt)))) $
+    move ! (2 ∷ 1 ∷ []) $ nothing ! $ nothing ! $ join ! $ nothing ! $ join ! $ nothing ! $ join ! $ move ! (1 ∷ 0 ∷ []) $ group ! 3 $ done !))))))
+    (λ t. absurd t)))
+    (λ b o e. regoal ! (λ p. prop (WpFn 𝓤 𝓛.H 𝓣.C 𝓣.Λ code.function (hv ++ (rawptr_vals p ++ v0)) (W.post (y p)))) e refl $
+    move ! (1 ∷ []) $ split ! $ move ! (1 ∷ []) $ split ! $ move ! (1 ∷ []) $ split ! $ drop ! $
+    -- [the others; what the heap owns; the tokens; the slot]
+    enter ! _ _ _ _ _ $ alloc_all ! (λ l. pass_all ! refl (fits, ((tt, tt), ((tt, record { fits = are.1.1.0.1 }), tt))) $
+    sets ! (of_opd ! (get ! refl)) refl (tt, tt) $
+    sets ! (bin ! (get ! refl) (lit ! tt) (tests_null (block_ptr b o) (subst Testable e may))) refl (tt, tt) $
+    first ! $ branches ! (get ! refl) (λ t. absurd t) (λ t. skips ! $
+    exec ! 𝓣.C 𝓣.Λ (env code.Mir.locals l) code.Mir.t-4 (at_ret (env code.Mir.locals l) (W.post (y (block_ptr b o)))) $
+    sets ! (of_opd ! (get ! refl)) refl fits $ first ! $ blocks ! $ sets ! (of_opd ! (get ! refl)) refl (tt, tt) $ sets ! (of_opd ! (get ! refl)) refl (tt, tt) $
     sets_last ! (addr ! (through ! refl (stop !))) refl (tt, tt) $
-    exec ! 𝓣.C 𝓣.Λ (env code.Mir.locals l) code.Mir.t-3 (at_ret (env code.Mir.locals l) (W.post (y (block_ptr b o)))) $
-    sets ! (of_opd ! (get ! refl)) refl (tt, tt) $ sets ! (of_opd ! (get ! refl)) refl (tt, record { fits = small }) $
-    lft_new ! tt (λ α. move ! (1 ∷ []) $
+    exec ! 𝓣.C 𝓣.Λ (env code.Mir.locals l) code.Mir.t-6 (at_ret (env code.Mir.locals l) (W.post (y (block_ptr b o)))) $
+    sets ! (of_opd ! (get ! refl)) refl (tt, tt) $ sets ! (of_opd ! (get ! refl)) refl (tt, record { fits = are.1.1.0.1 }) $
+    lft_new ! tt (λ α. move ! (4 ∷ []) $
     use1 𝓛 (later (some (λ (δ : GName). ‵ ((MutRef (named 0) (α ∷ []) R).own_val (record { ref_ptr = (b, o); ghost_name = δ; now = s }) (vptr b o ∷ [])) ⊛ ‵ (flent (α ∷ []) (Body (mem R) b o δ)))))
     (lends_ref 𝓛 R (named 0) (α ∷ []) s b o) $ await ! tt $ pick ! (λ δ. split ! $
-    -- [the loan; the lender's part; the token of α; what the heap owns; the number]
+    -- [the loan; the lender's part; the token of α; the others; what the heap owns; the tokens]
     let G = triple_of 𝓛 g.signature (g.spec 𝓛 𝓜.mem 𝓡.returns) in
-    let lent : MutBor Kept = record { ref_ptr = (b, o); ghost_name = δ; now = s } in
-    let z : G.Ghost = (((α ∷ [], tt), (full_share, tt), tt, (h, (lent, (n, tt))), (hv, (mut_vals lent, (uint_vals w32 n, tt)))), tt) in
-    nothing ! $ move ! (5 ∷ 0 ∷ []) $ join ! $ move ! (1 ∷ 0 ∷ []) $ join ! $ move ! (3 ∷ 0 ∷ []) $ join ! $
-    nothing ! $ move ! (3 ∷ 0 ∷ []) $ join ! $ join ! $
+    let lent : MutBor Slot = record { ref_ptr = (b, o); ghost_name = δ; now = s } in
+    let z : G.Ghost = (((α ∷ [], κs), (full_share, qs), tt, (h, (lent, (part, tt))), (hv, (mut_vals lent, (v0, tt)))), tt) in
+    move ! (0 ∷ 3 ∷ []) $ join ! $ move ! (3 ∷ 0 ∷ []) $ join ! $ move ! (2 ∷ 3 ∷ 0 ∷ []) $ join ! $ join ! $
     nothing ! $ move ! (1 ∷ 0 ∷ []) $ use2 𝓛 (raw (G.pre z)) (id⊢ 𝓤 _) $
-    calls_at ! (framed 𝓤 𝓛.H 𝓜 𝓣) G (met 𝓤 𝓛 𝓜 𝓡 (code.calls-editlens_c::sessions::shown 𝓡.env wired)) z
-    (and_then ! (get ! refl) (and_then ! (get ! refl) (and_then ! (get ! refl) (no_more !)))) (λ v.
+    calls_at ! (framed 𝓤 𝓛.H 𝓜 𝓣) G (met 𝓤 𝓛 𝓜 𝓡 (code.calls-editlens_c::sessions::shown 𝓡.env wired)) z (and_then ! (get ! refl) (and_then ! (get ! refl) (and_then ! (get ! refl) (no_more !)))) (λ v.
     use1 𝓛 (later (some (λ (r : Answer). ((‵ (flft (α ∷ []) full_share) ⊛ ‵ ftrue) ⊛ ‵ (Out.own_val r (v ∷ []))) ⊛
-    some (λ (ws : Lasts g.ended z.0.0 z.0.3). ‵ (lasts g.ended z.0.0 z.0.3 ws) ⊛ raw (fact 𝓤 (ShowsTo s n r ws.1.0)))))) (id⊢ 𝓤 _) $
+    some (λ (ws : Lasts g.ended z.0.0 z.0.3). ‵ (lasts g.ended z.0.0 z.0.3 ws) ⊛ raw (fact 𝓤 (Shows s part r ws.1.0)))))) (id⊢ 𝓤 _) $
     await ! tt $ pick ! (λ r. split ! $ split ! $ split ! $ lft_end ! tt $
-    -- [α is over; nothing; the result; the last values; the lender's part]
+    -- [α is over; the tokens; the result; the last values; the lender's part]
     move ! (3 ∷ []) $ pick ! (λ ws. split ! $ move ! (1 ∷ []) $ heard ! _ (λ told. fsplit ! $ drop ! $ fsplit ! $ fsplit ! $
-    -- [the loan's last value; its borrow; nothing; α is over; nothing; the result; the lender's part]
+    -- [the loan's last value; its borrow; nothing; α is over; the tokens; the result; the lender's part]
     move ! (3 ∷ 6 ∷ 0 ∷ []) $ use3 𝓛 (later (‵ ((mem R).own_at ws.1.0 b o))) (ref_back 𝓛 R (α ∷ []) δ ws.1.0 b o) $ await ! tt $
-    -- [the session; the borrow; nothing; nothing; the result]
+    -- [the slot; the borrow; nothing; the tokens; the result]
     move ! (4 ∷ []) $ peeks ! Out (Is Out) (shows 𝓛 Out) r (v ∷ []) (λ is. lands_as ! refl refl ((out.the_row_laws.lawful 𝓛).typed r _ is).0 $
-    returns ! (look_at ! 0 refl) $ free_all ! refl $ keep ! (1 ∷ 0 ∷ []) $
-    -- [the session; the result]
-    nothing ! $ fpack ! (ShowsTo s n r ws.1.0) (λ _. ftrue) told $ fjoin ! $
-    fpack ! Kept (λ (x : Kept). fsep (fex (ShowsTo s n r x) (λ _. ftrue)) (keeps (block_ptr b o) x)) ws.1.0 $
+    returns ! (look_at ! 0 refl) $ free_all ! refl $ keep ! (1 ∷ 4 ∷ 0 ∷ []) $
+    -- [the slot; the tokens; the result]
+    nothing ! $ fpack ! (Shows s part r ws.1.0) (λ _. ftrue) told $ fjoin ! $
+    fpack ! Slot (λ (x : Slot). fsep (fex (Shows s part r x) (λ _. ftrue)) (lies_at R full_share (block_ptr b o) x)) ws.1.0 $
     suffices ! _ (ends_at 𝓛 f.ended stayed c (y (block_ptr b o)) v r (tt, (tt, (tt, tt))) (tt, (tt, (tt, tt)))) $
-    move ! (1 ∷ []) $ nothing ! $ nothing ! $ join ! $ nothing ! $ join ! $ nothing ! $ join ! $ nothing ! $ group ! 3 $ done !))))))))))
+    move ! (1 ∷ 2 ∷ []) $ nothing ! $ nothing ! $ join ! $ nothing ! $ join ! $ nothing ! $ join ! $ move ! (1 ∷ 0 ∷ []) $ group ! 3 $ done !))))))))))))

@@ -14,6 +14,7 @@ use Rattle.editlens_main.specs.Shows.{shown, verified}
 use Rattle.editlens_main.proofs.Statuses.{only_usage, never_disk}
 use Rattle.editlens_main.proofs.SureEnds.{never, by_room, apply_in_room, pack_in_room, undo_in_room, view_in_room, refused_in_room, made_in_room, script_in_room}
 use Rattle.editlens_main.proofs.sure.run_sure.Goals as goal
+use Rattle.store_run.specs.Devices.{devices_of}
 
 pub returns-clause-no_source_fault : goal.returns-clause-no_source_fault
 returns-clause-no_source_fault c = λ e. never (c.editlens.ensures.causes.source_fault e)
@@ -60,12 +61,12 @@ returns-clause-link_sure c = λ e few.
 pub returns-clause-init_sure : goal.returns-clause-init_sure
 returns-clause-init_sure c = λ e empty few.
     made_in_room c.editlens.result _ (λ f. never (c.editlens.ensures.causes.source_fault f)) (λ f. by_room (c.editlens.ensures.causes.sink_fault f))
-    sure_source sure_sink sure_disk init_command accepts refuses (c.args.source.now, c.args.sink.now, c.args.disk.now) (c.editlens.new.source, c.editlens.new.sink, c.editlens.new.disk) c.args.source.now.left refl (ap Some empty) few _ (c.editlens.ensures.init e).caused (c.editlens.ensures.init e).stops
+    sure_source sure_sink sure_disk init_command accepts refuses (devices_of c.args.source.now c.args.sink.now c.args.disk.now) (devices_of c.editlens.new.source c.editlens.new.sink c.editlens.new.disk) c.args.source.now.left refl (ap Some empty) few _ (c.editlens.ensures.init e).caused (c.editlens.ensures.init e).stops
 
 pub returns-clause-import_sure : goal.returns-clause-import_sure
 returns-clause-import_sure c = λ e empty few.
     made_in_room c.editlens.result _ (λ f. never (c.editlens.ensures.causes.source_fault f)) (λ f. by_room (c.editlens.ensures.causes.sink_fault f))
-    sure_source sure_sink sure_disk import_command imported.accepts imported.refuses (c.args.source.now, c.args.sink.now, c.args.disk.now) (c.editlens.new.source, c.editlens.new.sink, c.editlens.new.disk) c.args.source.now.left refl (ap Some empty) few _ (c.editlens.ensures.import e).caused (c.editlens.ensures.import e).stops
+    sure_source sure_sink sure_disk import_command imported.accepts imported.refuses (devices_of c.args.source.now c.args.sink.now c.args.disk.now) (devices_of c.editlens.new.source c.editlens.new.sink c.editlens.new.disk) c.args.source.now.left refl (ap Some empty) few _ (c.editlens.ensures.import e).caused (c.editlens.ensures.import e).stops
 
 pub returns-clause-views_sure : goal.returns-clause-views_sure
 returns-clause-views_sure c = λ h store. elim h [

@@ -12,67 +12,68 @@ use Rattle.pair_run.specs.Scripts.{pair_script, types_script}
 use Rattle.editlens_main.proofs.OrderClauses.{not_none, at_order, never_script, never_gen, never_init, never_import, never_apply, never_pack, never_undo, never_view}
 use Rattle.editlens_main.proofs.Statuses.{memory_may_end}
 use Rattle.editlens_main.proofs.top.editlens.Goals as goal
+use Rattle.store_run.specs.Devices.{devices_of}
 
 -- ---- the order was read
 
 pub returns-in-Ok-clause-run : goal.returns-in-Ok-clause-run
 returns-in-Ok-clause-run g c =
-    λ e. at_order g.S.Source g.K.Sink g.D.Disk (c.args.source.now, c.args.sink.now, c.args.disk.now) (c.run_order.new.source, c.run_order.new.sink, c.run_order.new.disk)
+    λ e. at_order g.S.Source g.K.Sink g.D.Disk (devices_of c.args.source.now c.args.sink.now c.args.disk.now) (devices_of c.run_order.new.source c.run_order.new.sink c.run_order.new.disk)
     c.run_order.result c.in-Ok.order Run (order_named c.args.words.now) c.in-Ok.ensures.order c.run_order.ensures.ends e
 
 pub returns-in-Ok-clause-check : goal.returns-in-Ok-clause-check
 returns-in-Ok-clause-check g c =
-    λ e. at_order g.S.Source g.K.Sink g.D.Disk (c.args.source.now, c.args.sink.now, c.args.disk.now) (c.run_order.new.source, c.run_order.new.sink, c.run_order.new.disk)
+    λ e. at_order g.S.Source g.K.Sink g.D.Disk (devices_of c.args.source.now c.args.sink.now c.args.disk.now) (devices_of c.run_order.new.source c.run_order.new.sink c.run_order.new.disk)
     c.run_order.result c.in-Ok.order Check (order_named c.args.words.now) c.in-Ok.ensures.order c.run_order.ensures.ends e
 
 pub returns-in-Ok-clause-generate : goal.returns-in-Ok-clause-generate
 returns-in-Ok-clause-generate g c =
-    λ count seed e. at_order g.S.Source g.K.Sink g.D.Disk (c.args.source.now, c.args.sink.now, c.args.disk.now) (c.run_order.new.source, c.run_order.new.sink, c.run_order.new.disk)
+    λ count seed e. at_order g.S.Source g.K.Sink g.D.Disk (devices_of c.args.source.now c.args.sink.now c.args.disk.now) (devices_of c.run_order.new.source c.run_order.new.sink c.run_order.new.disk)
     c.run_order.result c.in-Ok.order (Gen count seed) (order_named c.args.words.now) c.in-Ok.ensures.order c.run_order.ensures.ends e
 
 pub returns-in-Ok-clause-init : goal.returns-in-Ok-clause-init
 returns-in-Ok-clause-init g c =
-    λ e. at_order g.S.Source g.K.Sink g.D.Disk (c.args.source.now, c.args.sink.now, c.args.disk.now) (c.run_order.new.source, c.run_order.new.sink, c.run_order.new.disk)
+    λ e. at_order g.S.Source g.K.Sink g.D.Disk (devices_of c.args.source.now c.args.sink.now c.args.disk.now) (devices_of c.run_order.new.source c.run_order.new.sink c.run_order.new.disk)
     c.run_order.result c.in-Ok.order Init (order_named c.args.words.now) c.in-Ok.ensures.order c.run_order.ensures.ends e
 
 pub returns-in-Ok-clause-import : goal.returns-in-Ok-clause-import
 returns-in-Ok-clause-import g c =
-    λ e. at_order g.S.Source g.K.Sink g.D.Disk (c.args.source.now, c.args.sink.now, c.args.disk.now) (c.run_order.new.source, c.run_order.new.sink, c.run_order.new.disk)
+    λ e. at_order g.S.Source g.K.Sink g.D.Disk (devices_of c.args.source.now c.args.sink.now c.args.disk.now) (devices_of c.run_order.new.source c.run_order.new.sink c.run_order.new.disk)
     c.run_order.result c.in-Ok.order Import (order_named c.args.words.now) c.in-Ok.ensures.order c.run_order.ensures.ends e
 
 pub returns-in-Ok-clause-apply : goal.returns-in-Ok-clause-apply
 returns-in-Ok-clause-apply g c =
-    λ e. at_order g.S.Source g.K.Sink g.D.Disk (c.args.source.now, c.args.sink.now, c.args.disk.now) (c.run_order.new.source, c.run_order.new.sink, c.run_order.new.disk)
+    λ e. at_order g.S.Source g.K.Sink g.D.Disk (devices_of c.args.source.now c.args.sink.now c.args.disk.now) (devices_of c.run_order.new.source c.run_order.new.sink c.run_order.new.disk)
     c.run_order.result c.in-Ok.order Apply (order_named c.args.words.now) c.in-Ok.ensures.order c.run_order.ensures.ends e
 
 pub returns-in-Ok-clause-show : goal.returns-in-Ok-clause-show
 returns-in-Ok-clause-show g c =
-    λ e. at_order g.S.Source g.K.Sink g.D.Disk (c.args.source.now, c.args.sink.now, c.args.disk.now) (c.run_order.new.source, c.run_order.new.sink, c.run_order.new.disk)
+    λ e. at_order g.S.Source g.K.Sink g.D.Disk (devices_of c.args.source.now c.args.sink.now c.args.disk.now) (devices_of c.run_order.new.source c.run_order.new.sink c.run_order.new.disk)
     c.run_order.result c.in-Ok.order Show (order_named c.args.words.now) c.in-Ok.ensures.order c.run_order.ensures.ends e
 
 pub returns-in-Ok-clause-verify : goal.returns-in-Ok-clause-verify
 returns-in-Ok-clause-verify g c =
-    λ e. at_order g.S.Source g.K.Sink g.D.Disk (c.args.source.now, c.args.sink.now, c.args.disk.now) (c.run_order.new.source, c.run_order.new.sink, c.run_order.new.disk)
+    λ e. at_order g.S.Source g.K.Sink g.D.Disk (devices_of c.args.source.now c.args.sink.now c.args.disk.now) (devices_of c.run_order.new.source c.run_order.new.sink c.run_order.new.disk)
     c.run_order.result c.in-Ok.order Verify (order_named c.args.words.now) c.in-Ok.ensures.order c.run_order.ensures.ends e
 
 pub returns-in-Ok-clause-pack : goal.returns-in-Ok-clause-pack
 returns-in-Ok-clause-pack g c =
-    λ e. at_order g.S.Source g.K.Sink g.D.Disk (c.args.source.now, c.args.sink.now, c.args.disk.now) (c.run_order.new.source, c.run_order.new.sink, c.run_order.new.disk)
+    λ e. at_order g.S.Source g.K.Sink g.D.Disk (devices_of c.args.source.now c.args.sink.now c.args.disk.now) (devices_of c.run_order.new.source c.run_order.new.sink c.run_order.new.disk)
     c.run_order.result c.in-Ok.order Pack (order_named c.args.words.now) c.in-Ok.ensures.order c.run_order.ensures.ends e
 
 pub returns-in-Ok-clause-undo : goal.returns-in-Ok-clause-undo
 returns-in-Ok-clause-undo g c =
-    λ count e. at_order g.S.Source g.K.Sink g.D.Disk (c.args.source.now, c.args.sink.now, c.args.disk.now) (c.run_order.new.source, c.run_order.new.sink, c.run_order.new.disk)
+    λ count e. at_order g.S.Source g.K.Sink g.D.Disk (devices_of c.args.source.now c.args.sink.now c.args.disk.now) (devices_of c.run_order.new.source c.run_order.new.sink c.run_order.new.disk)
     c.run_order.result c.in-Ok.order (Undo count) (order_named c.args.words.now) c.in-Ok.ensures.order c.run_order.ensures.ends e
 
 pub returns-in-Ok-clause-hub : goal.returns-in-Ok-clause-hub
 returns-in-Ok-clause-hub g c =
-    λ e. at_order g.S.Source g.K.Sink g.D.Disk (c.args.source.now, c.args.sink.now, c.args.disk.now) (c.run_order.new.source, c.run_order.new.sink, c.run_order.new.disk)
+    λ e. at_order g.S.Source g.K.Sink g.D.Disk (devices_of c.args.source.now c.args.sink.now c.args.disk.now) (devices_of c.run_order.new.source c.run_order.new.sink c.run_order.new.disk)
     c.run_order.result c.in-Ok.order Hub (order_named c.args.words.now) c.in-Ok.ensures.order c.run_order.ensures.ends e
 
 pub returns-in-Ok-clause-link : goal.returns-in-Ok-clause-link
 returns-in-Ok-clause-link g c =
-    λ e. at_order g.S.Source g.K.Sink g.D.Disk (c.args.source.now, c.args.sink.now, c.args.disk.now) (c.run_order.new.source, c.run_order.new.sink, c.run_order.new.disk)
+    λ e. at_order g.S.Source g.K.Sink g.D.Disk (devices_of c.args.source.now c.args.sink.now c.args.disk.now) (devices_of c.run_order.new.source c.run_order.new.sink c.run_order.new.disk)
     c.run_order.result c.in-Ok.order Link (order_named c.args.words.now) c.in-Ok.ensures.order c.run_order.ensures.ends e
 
 pub returns-in-Ok-clause-usage : goal.returns-in-Ok-clause-usage
@@ -106,13 +107,13 @@ pub returns-in-Err-NoMemory-clause-generate : goal.returns-in-Err-NoMemory-claus
 returns-in-Err-NoMemory-clause-generate g c = λ count seed e. never_gen g.K.Sink c.args.sink.now count seed
 
 pub returns-in-Err-NoMemory-clause-init : goal.returns-in-Err-NoMemory-clause-init
-returns-in-Err-NoMemory-clause-init g c = λ e. never_init g.S.Source g.K.Sink g.D.Disk (c.args.source.now, c.args.sink.now, c.args.disk.now)
+returns-in-Err-NoMemory-clause-init g c = λ e. never_init g.S.Source g.K.Sink g.D.Disk (devices_of c.args.source.now c.args.sink.now c.args.disk.now)
 
 pub returns-in-Err-NoMemory-clause-import : goal.returns-in-Err-NoMemory-clause-import
-returns-in-Err-NoMemory-clause-import g c = λ e. never_import g.S.Source g.K.Sink g.D.Disk (c.args.source.now, c.args.sink.now, c.args.disk.now)
+returns-in-Err-NoMemory-clause-import g c = λ e. never_import g.S.Source g.K.Sink g.D.Disk (devices_of c.args.source.now c.args.sink.now c.args.disk.now)
 
 pub returns-in-Err-NoMemory-clause-apply : goal.returns-in-Err-NoMemory-clause-apply
-returns-in-Err-NoMemory-clause-apply g c = λ e. never_apply g.S.Source g.K.Sink g.D.Disk (c.args.source.now, c.args.sink.now, c.args.disk.now)
+returns-in-Err-NoMemory-clause-apply g c = λ e. never_apply g.S.Source g.K.Sink g.D.Disk (devices_of c.args.source.now c.args.sink.now c.args.disk.now)
 
 pub returns-in-Err-NoMemory-clause-show : goal.returns-in-Err-NoMemory-clause-show
 returns-in-Err-NoMemory-clause-show g c = λ e. never_view g.K.Sink g.D.Disk (c.args.sink.now, c.args.disk.now) g.met.D.Disk.only_now shown

@@ -7,10 +7,11 @@ use Rattle.editlens_main.specs.Statuses.{MayEnd}
 use Rattle.editlens_main.proofs.OrderClauses.{not_reading, not_diskless}
 use Rattle.editlens_main.proofs.Statuses.{gen_reads_nothing, script_stores_nothing, gen_stores_nothing}
 use Rattle.editlens_main.proofs.top.run_order.Goals as goal
+use Rattle.store_run.specs.Devices.{devices_of}
 
 pub returns-in-Run-clause-ends : goal.returns-in-Run-clause-ends
 returns-in-Run-clause-ends g c =
-    subst (EndsOrder g.S.Source g.K.Sink g.D.Disk (c.args.source.now, c.args.sink.now, c.args.disk.now) (c.run_pair_script.new.source, c.run_pair_script.new.sink, c.args.disk.now) c.run_pair_script.result)
+    subst (EndsOrder g.S.Source g.K.Sink g.D.Disk (devices_of c.args.source.now c.args.sink.now c.args.disk.now) (devices_of c.run_pair_script.new.source c.run_pair_script.new.sink c.args.disk.now) c.run_pair_script.result)
     (sym c.in-Run.is) c.run_pair_script.ensures.runs
 
 pub returns-in-Run-clause-statuses : goal.returns-in-Run-clause-statuses
@@ -24,7 +25,7 @@ returns-in-Run-clause-disk_fault g c = λ e. absurd (script_stores_nothing c.run
 
 pub returns-in-Check-clause-ends : goal.returns-in-Check-clause-ends
 returns-in-Check-clause-ends g c =
-    subst (EndsOrder g.S.Source g.K.Sink g.D.Disk (c.args.source.now, c.args.sink.now, c.args.disk.now) (c.check_script.new.source, c.check_script.new.sink, c.args.disk.now) c.check_script.result)
+    subst (EndsOrder g.S.Source g.K.Sink g.D.Disk (devices_of c.args.source.now c.args.sink.now c.args.disk.now) (devices_of c.check_script.new.source c.check_script.new.sink c.args.disk.now) c.check_script.result)
     (sym c.in-Check.is) c.check_script.ensures.runs
 
 pub returns-in-Check-clause-statuses : goal.returns-in-Check-clause-statuses
@@ -38,7 +39,7 @@ returns-in-Check-clause-disk_fault g c = λ e. absurd (script_stores_nothing c.c
 
 pub returns-in-Gen-clause-ends : goal.returns-in-Gen-clause-ends
 returns-in-Gen-clause-ends g c =
-    subst (EndsOrder g.S.Source g.K.Sink g.D.Disk (c.args.source.now, c.args.sink.now, c.args.disk.now) (c.args.source.now, c.run_generated.new.sink, c.args.disk.now) c.run_generated.result)
+    subst (EndsOrder g.S.Source g.K.Sink g.D.Disk (devices_of c.args.source.now c.args.sink.now c.args.disk.now) (devices_of c.args.source.now c.run_generated.new.sink c.args.disk.now) c.run_generated.result)
     (sym c.in-Gen.is) (record { reports = c.run_generated.ensures.written; completes = c.run_generated.ensures.complete })
 
 pub returns-in-Gen-clause-statuses : goal.returns-in-Gen-clause-statuses
@@ -52,7 +53,7 @@ returns-in-Gen-clause-disk_fault g c = λ e. absurd (gen_stores_nothing c.run_ge
 
 pub returns-in-Init-clause-ends : goal.returns-in-Init-clause-ends
 returns-in-Init-clause-ends g c =
-    subst (EndsOrder g.S.Source g.K.Sink g.D.Disk (c.args.source.now, c.args.sink.now, c.args.disk.now) (c.run_init.new.source, c.run_init.new.sink, c.run_init.new.disk) c.run_init.result)
+    subst (EndsOrder g.S.Source g.K.Sink g.D.Disk (devices_of c.args.source.now c.args.sink.now c.args.disk.now) (devices_of c.run_init.new.source c.run_init.new.sink c.run_init.new.disk) c.run_init.result)
     (sym c.in-Init.is) c.run_init.ensures.makes
 
 pub returns-in-Init-clause-statuses : goal.returns-in-Init-clause-statuses
@@ -66,7 +67,7 @@ returns-in-Init-clause-untouched g c = λ h. absurd (not_diskless c.args.order I
 
 pub returns-in-Import-clause-ends : goal.returns-in-Import-clause-ends
 returns-in-Import-clause-ends g c =
-    subst (EndsOrder g.S.Source g.K.Sink g.D.Disk (c.args.source.now, c.args.sink.now, c.args.disk.now) (c.run_import.new.source, c.run_import.new.sink, c.run_import.new.disk) c.run_import.result)
+    subst (EndsOrder g.S.Source g.K.Sink g.D.Disk (devices_of c.args.source.now c.args.sink.now c.args.disk.now) (devices_of c.run_import.new.source c.run_import.new.sink c.run_import.new.disk) c.run_import.result)
     (sym c.in-Import.is) c.run_import.ensures.imports
 
 pub returns-in-Import-clause-statuses : goal.returns-in-Import-clause-statuses
@@ -80,7 +81,7 @@ returns-in-Import-clause-untouched g c = λ h. absurd (not_diskless c.args.order
 
 pub returns-in-Apply-clause-ends : goal.returns-in-Apply-clause-ends
 returns-in-Apply-clause-ends g c =
-    subst (EndsOrder g.S.Source g.K.Sink g.D.Disk (c.args.source.now, c.args.sink.now, c.args.disk.now) (c.run_apply.new.source, c.run_apply.new.sink, c.run_apply.new.disk) c.run_apply.result)
+    subst (EndsOrder g.S.Source g.K.Sink g.D.Disk (devices_of c.args.source.now c.args.sink.now c.args.disk.now) (devices_of c.run_apply.new.source c.run_apply.new.sink c.run_apply.new.disk) c.run_apply.result)
     (sym c.in-Apply.is) c.run_apply.ensures.applies
 
 pub returns-in-Apply-clause-statuses : goal.returns-in-Apply-clause-statuses
@@ -94,7 +95,7 @@ returns-in-Apply-clause-untouched g c = λ h. absurd (not_diskless c.args.order 
 
 pub returns-in-Show-clause-ends : goal.returns-in-Show-clause-ends
 returns-in-Show-clause-ends g c =
-    subst (EndsOrder g.S.Source g.K.Sink g.D.Disk (c.args.source.now, c.args.sink.now, c.args.disk.now) (c.args.source.now, c.run_show.new.sink, c.run_show.new.disk) c.run_show.result)
+    subst (EndsOrder g.S.Source g.K.Sink g.D.Disk (devices_of c.args.source.now c.args.sink.now c.args.disk.now) (devices_of c.args.source.now c.run_show.new.sink c.run_show.new.disk) c.run_show.result)
     (sym c.in-Show.is) c.run_show.ensures.shows
 
 pub returns-in-Show-clause-statuses : goal.returns-in-Show-clause-statuses
@@ -108,7 +109,7 @@ returns-in-Show-clause-untouched g c = λ h. absurd (not_diskless c.args.order S
 
 pub returns-in-Verify-clause-ends : goal.returns-in-Verify-clause-ends
 returns-in-Verify-clause-ends g c =
-    subst (EndsOrder g.S.Source g.K.Sink g.D.Disk (c.args.source.now, c.args.sink.now, c.args.disk.now) (c.args.source.now, c.run_verify.new.sink, c.run_verify.new.disk) c.run_verify.result)
+    subst (EndsOrder g.S.Source g.K.Sink g.D.Disk (devices_of c.args.source.now c.args.sink.now c.args.disk.now) (devices_of c.args.source.now c.run_verify.new.sink c.run_verify.new.disk) c.run_verify.result)
     (sym c.in-Verify.is) c.run_verify.ensures.verifies
 
 pub returns-in-Verify-clause-statuses : goal.returns-in-Verify-clause-statuses
@@ -122,7 +123,7 @@ returns-in-Verify-clause-untouched g c = λ h. absurd (not_diskless c.args.order
 
 pub returns-in-Pack-clause-ends : goal.returns-in-Pack-clause-ends
 returns-in-Pack-clause-ends g c =
-    subst (EndsOrder g.S.Source g.K.Sink g.D.Disk (c.args.source.now, c.args.sink.now, c.args.disk.now) (c.args.source.now, c.run_pack.new.sink, c.run_pack.new.disk) c.run_pack.result)
+    subst (EndsOrder g.S.Source g.K.Sink g.D.Disk (devices_of c.args.source.now c.args.sink.now c.args.disk.now) (devices_of c.args.source.now c.run_pack.new.sink c.run_pack.new.disk) c.run_pack.result)
     (sym c.in-Pack.is) c.run_pack.ensures.packs
 
 pub returns-in-Pack-clause-statuses : goal.returns-in-Pack-clause-statuses
@@ -136,7 +137,7 @@ returns-in-Pack-clause-untouched g c = λ h. absurd (not_diskless c.args.order P
 
 pub returns-in-Undo-clause-ends : goal.returns-in-Undo-clause-ends
 returns-in-Undo-clause-ends g c =
-    subst (EndsOrder g.S.Source g.K.Sink g.D.Disk (c.args.source.now, c.args.sink.now, c.args.disk.now) (c.args.source.now, c.run_undo.new.sink, c.run_undo.new.disk) c.run_undo.result)
+    subst (EndsOrder g.S.Source g.K.Sink g.D.Disk (devices_of c.args.source.now c.args.sink.now c.args.disk.now) (devices_of c.args.source.now c.run_undo.new.sink c.run_undo.new.disk) c.run_undo.result)
     (sym c.in-Undo.is) c.run_undo.ensures.undoes
 
 pub returns-in-Undo-clause-statuses : goal.returns-in-Undo-clause-statuses
@@ -150,7 +151,7 @@ returns-in-Undo-clause-untouched g c = λ h. absurd (not_diskless c.args.order (
 
 pub returns-in-Hub-clause-ends : goal.returns-in-Hub-clause-ends
 returns-in-Hub-clause-ends g c =
-    subst (EndsOrder g.S.Source g.K.Sink g.D.Disk (c.args.source.now, c.args.sink.now, c.args.disk.now) (c.run_hub_script.new.source, c.run_hub_script.new.sink, c.args.disk.now) c.run_hub_script.result)
+    subst (EndsOrder g.S.Source g.K.Sink g.D.Disk (devices_of c.args.source.now c.args.sink.now c.args.disk.now) (devices_of c.run_hub_script.new.source c.run_hub_script.new.sink c.args.disk.now) c.run_hub_script.result)
     (sym c.in-Hub.is) c.run_hub_script.ensures.runs
 
 pub returns-in-Hub-clause-statuses : goal.returns-in-Hub-clause-statuses
@@ -164,7 +165,7 @@ returns-in-Hub-clause-disk_fault g c = λ e. absurd (script_stores_nothing c.run
 
 pub returns-in-Link-clause-ends : goal.returns-in-Link-clause-ends
 returns-in-Link-clause-ends g c =
-    subst (EndsOrder g.S.Source g.K.Sink g.D.Disk (c.args.source.now, c.args.sink.now, c.args.disk.now) (c.run_link_script.new.source, c.run_link_script.new.sink, c.args.disk.now) c.run_link_script.result)
+    subst (EndsOrder g.S.Source g.K.Sink g.D.Disk (devices_of c.args.source.now c.args.sink.now c.args.disk.now) (devices_of c.run_link_script.new.source c.run_link_script.new.sink c.args.disk.now) c.run_link_script.result)
     (sym c.in-Link.is) c.run_link_script.ensures.runs
 
 pub returns-in-Link-clause-statuses : goal.returns-in-Link-clause-statuses

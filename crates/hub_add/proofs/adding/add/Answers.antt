@@ -1,13 +1,14 @@
 use Rattle.std.proofs.Common.{◌≡◌, inl, inr, ℕ, List, Option, None, Ok, Err, refl, ap, sym, subst, ◌∙◌}
 use Rattle.command_ends.proofs.AmongStatuses.{quiet_reads_nothing}
 use Rattle.lens_io.proofs.Increases.{increased_since}
+use Rattle.store_run.specs.Devices.{devices_of}
 use Rattle.store_run.specs.declared.opening.OpenFault.{OpenFault}
 use Rattle.store_run.proofs.StoredPayloads.{images_held, reads_held}
 use Rattle.store_run.specs.declared.opening.OpenFault.TheVariants.{DiskFault}
 use Rattle.store_run.proofs.StoreOpenings.{ends_refused, fails_to_open, same_fault, unopened_at_disk}
-use Rattle.hub_run.specs.RunStates.{state_of}
+use Rattle.hub_run.specs.RunStates.{hub_state_of}
 use Rattle.hub_run.specs.Runs.{HubState}
-use Rattle.hub_session.specs.HubStates.{stands_for}
+use Rattle.hub_session.specs.HubStates.{hub_stands_for}
 use Rattle.hub_add.specs.AddCall.{AddEnds}
 use Rattle.hub_add.proofs.AddingEnds.{add_at_once, add_cause, add_complete, adds_view, ends_behind, fails_first, safe_add}
 use Rattle.hub_add.proofs.AddStatuses.{quiet_inits}
@@ -34,9 +35,9 @@ returns-in-Ok-clause-stops g c =
     let o = c.in-Ok.ensures.opened store in
     let before = store.payloads in
     let none = no_version before store.state store.version store.stands in
-    let stood : stands_for before ≡ Ok (state_of made.session.hub, None) =
+    let stood : hub_stands_for before ≡ Ok (hub_state_of made.session.hub, None) =
     store.stands ∙ ap (λ (v : Option (List ℕ)). Ok (store.state, v)) none ∙ ap (λ (t : HubState). Ok (t, None)) (sym o.state_is) in
-    let here = subst (λ (t : HubState). AddEnds g.S.Source g.K.Sink disk (s, k, d1) (s', k', d') before t status) o.state_is (c.add_opened.ensures.ends before o.stands stood) in
+    let here = subst (λ (t : HubState). AddEnds g.S.Source g.K.Sink disk (devices_of s k d1) (devices_of s' k' d') before t status) o.state_is (c.add_opened.ensures.ends before o.stands stood) in
     ends_behind g.S.Source g.K.Sink disk hold reads g.met.D.Disk.only_now before store.state s s' k k' d d1 d' status c.in-Ok.ensures.opening here
 
 pub returns-in-Ok-clause-adds : goal.returns-in-Ok-clause-adds

@@ -1,12 +1,12 @@
 use Rattle.std.proofs.Common.{inl, inr, ap, sym, subst}
 use Rattle.command_ends.proofs.AmongStatuses.{quiet_reads_nothing}
-use Rattle.command_ends.specs.Statuses.{IsAmong, init_statuses}
+use Rattle.command_ends.specs.Statuses.{IsStatusAmong, init_statuses}
 use Rattle.lens_forms.specs.Forms.{form_tree}
 use Rattle.program_terms.specs.Views.{program_tree}
 use Rattle.script_input.specs.Lines.{program_part}
 use Rattle.store_new.specs.ScriptReading.{ReadsFront}
 use Rattle.store_run.proofs.StoredPayloads.{images_held, reads_held}
-use Rattle.hub_run.specs.RunStates.{forms_of_lenses, state_of}
+use Rattle.hub_run.specs.RunStates.{forms_of_lenses, hub_state_of}
 use Rattle.hub_new.proofs.HubsRead.{refuses_views, never_device}
 use Rattle.hub_add.specs.AddCall.{AddEnds}
 use Rattle.hub_add.specs.AddReading.{ReadsRefusedView, ReadsView}
@@ -15,6 +15,7 @@ use Rattle.hub_add.proofs.AddStatuses.{quiet_inits, refused_among, stopped_among
 use Rattle.hub_add.proofs.AddsRead.{added_joins}
 use Rattle.hub_add.proofs.AddingEnds.{adds_program, refuses_view, stops_reading}
 use Rattle.hub_add.proofs.adding.add_opened.Goals as goal
+use Rattle.store_run.specs.Devices.{devices_of}
 
 pub add_program-requires-clause-joins : goal.add_program-requires-clause-joins
 add_program-requires-clause-joins g c =
@@ -28,7 +29,7 @@ returns-in-Ok-clause-ends g c =
     let disk = g.D.Disk in
     let hold = images_held disk g.met.D.Disk.content_is_image in
     let reads = reads_held disk in
-    let state = state_of c.args.session.now.hub in
+    let state = hub_state_of c.args.session.now.hub in
     let accepted = c.in-Ok.accepted in
     let lenses = ap forms_of_lenses (rw c.hub-2.ensures at c.lenses.ensures.lenses) in
     let r = subst (λ fs. ReadsView g.S.Source c.args.source.now c.read_view.new.source fs (program_tree accepted.program) (form_tree accepted.lens)) lenses c.in-Ok.ensures.script in
@@ -44,7 +45,7 @@ returns-in-Err-Refused-clause-ends g c =
     let disk = g.D.Disk in
     let hold = images_held disk g.met.D.Disk.content_is_image in
     let reads = reads_held disk in
-    let state = state_of c.args.session.now.hub in
+    let state = hub_state_of c.args.session.now.hub in
     let lenses = ap forms_of_lenses (rw c.hub-2.ensures at c.lenses.ensures.lenses) in
     let unread = rw c.in-Err-Refused.field-0-is at c.in-Err-Refused.ensures.script in
     let r = subst (λ fs. ReadsRefusedView g.S.Source c.args.source.now c.read_view.new.source fs c.in-Err-Refused.refused) lenses unread in
@@ -58,12 +59,12 @@ returns-in-Err-Stopped-clause-ends g c =
     let disk = g.D.Disk in
     let hold = images_held disk g.met.D.Disk.content_is_image in
     let reads = reads_held disk in
-    let state = state_of c.args.session.now.hub in
+    let state = hub_state_of c.args.session.now.hub in
     let lenses = ap forms_of_lenses (rw c.hub-2.ensures at c.lenses.ensures.lenses) in
     let unread = rw c.in-Err-Stopped.field-0-is at c.in-Err-Stopped.ensures.script in
     let r = subst (λ fs. ReadsFront (view_part fs) g.S.Source c.args.source.now c.read_view.new.source c.in-Err-Stopped.fault) lenses unread in
     λ before st stood.
-    subst (λ status. AddEnds g.S.Source g.K.Sink disk (c.args.source.now, c.args.sink.now, c.args.disk.now) (c.read_view.new.source, c.args.sink.now, c.args.disk.now) before state status)
+    subst (λ status. AddEnds g.S.Source g.K.Sink disk (devices_of c.args.source.now c.args.sink.now c.args.disk.now) (devices_of c.read_view.new.source c.args.sink.now c.args.disk.now) before state status)
     (sym c.status_at.ensures)
     (stops_reading g.S.Source g.K.Sink disk hold reads g.met.D.Disk.only_now before state c.args.source.now c.read_view.new.source c.args.sink.now c.args.disk.now c.in-Err-Stopped.fault
     (λ x now. hold c.args.log.now c.args.disk.now before x st now) r)
@@ -99,4 +100,4 @@ returns-in-Err-Refused-clause-disk_fault g c =
     (refuses_views (added_form forms) g.K.Sink c.args.sink.now c.refuse_views.new.sink outcome c.refuse_views.result c.in-Err-Refused.refused r.is c.refuse_views.ensures.refuses) (inr e))
 
 pub returns-in-Err-Stopped-clause-statuses : goal.returns-in-Err-Stopped-clause-statuses
-returns-in-Err-Stopped-clause-statuses g c = subst (λ status. IsAmong init_statuses status) (sym c.status_at.ensures) (stopped_among c.in-Err-Stopped.fault)
+returns-in-Err-Stopped-clause-statuses g c = subst (λ status. IsStatusAmong init_statuses status) (sym c.status_at.ensures) (stopped_among c.in-Err-Stopped.fault)

@@ -1,6 +1,6 @@
 use Rattle.std.proofs.Common.{ap, ◌∙◌}
 use Rattle.view_hub.specs.Views.{hub_tree}
-use Rattle.hub_run.specs.Runs.{state_text}
+use Rattle.hub_run.specs.Runs.{hub_state_text}
 use Rattle.hub_add.proofs.adding.view_text.Goals as goal
 
 pub returns : goal.returns
@@ -11,5 +11,5 @@ returns c =
       made = c.in_ok-add.ensures.added;
       is = c.in_ok-payload.ensures.text;
       reads = c.in_ok-payload.ensures.reads_back;
-      written = c.in_ok-lines.ensures.text ∙ ap (λ forms. state_text (record { forms = forms; hub = hub })) c.in_ok-add.ensures.forms;
+      written = c.in_ok-lines.ensures.text ∙ ap (λ forms. hub_state_text (record { forms = forms; hub = hub })) c.in_ok-add.ensures.forms;
     }

@@ -9,6 +9,7 @@ use Rattle.hub_new.specs.HubInit.{hub_command}
 use Rattle.hub_new.proofs.HubInitEnds.{begins_no_room, begun}
 use Rattle.hub_new.proofs.HubsRead.{refuses_views, never_device}
 use Rattle.hub_new.proofs.starting.init_empty.Goals as goal
+use Rattle.store_run.specs.Devices.{devices_of}
 
 pub returns-in-Ok-clause-ends : goal.returns-in-Ok-clause-ends
 returns-in-Ok-clause-ends g c =
@@ -33,7 +34,7 @@ returns-in-Err-Stopped-clause-ends g c =
     let s' = c.read_views.new.source in
     let k = c.args.sink.now in
     let d = c.args.disk.now in
-    subst (λ status. Ends g.S.Source g.K.Sink g.D.Disk hub_command (s, k, d) (s', k, d) status) (sym c.status_at.ensures)
+    subst (λ status. Ends g.S.Source g.K.Sink g.D.Disk hub_command (devices_of s k d) (devices_of s' k d) status) (sym c.status_at.ensures)
     (ends_front g.S.Source g.K.Sink g.D.Disk hub_command s s' k d c.in-Err-Stopped.fault r)
 
 pub returns-in-Err-Refused-clause-source_fault : goal.returns-in-Err-Refused-clause-source_fault

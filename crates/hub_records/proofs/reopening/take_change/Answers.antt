@@ -1,7 +1,7 @@
 use Rattle.std.proofs.Common.{map, subst}
 use Rattle.view_hub.specs.Groups.{step_group}
 use Rattle.view_hub.specs.Hubs.{no_view, no_apply}
-use Rattle.view_hub.specs.Views.{IsGroupRefusal, carried_tree, edit_trees, hub_tree}
+use Rattle.view_hub.specs.Views.{IsGroupRefusal, hub_carried_tree, edit_trees, hub_tree}
 use Rattle.hub_run.specs.RunStates.{ready_lens}
 use Rattle.hub_records.specs.Views.{hub_change_tree}
 use Rattle.hub_records.proofs.RecordSteps.{change_reaches, change_refused}
@@ -12,7 +12,7 @@ returns-in-Ok-clause-stands c =
     let o = c.args.opened.now in
     let new = c.step_all.new.self in
     change_reaches c.args.number o.hub.lenses (hub_tree o.hub.parts) o.count (hub_change_tree c.args.change.now) (edit_trees c.edits.result.now) new.lenses (hub_tree new.parts)
-    (map carried_tree c.in-Ok._words.items) c.edits.ensures c.step_all.ensures.lenses c.in-Ok.ensures.steps
+    (map hub_carried_tree c.in-Ok._words.items) c.edits.ensures c.step_all.ensures.lenses c.in-Ok.ensures.steps
 
 pub returns-in-Err-NoView-clause-stands : goal.returns-in-Err-NoView-clause-stands
 returns-in-Err-NoView-clause-stands c =

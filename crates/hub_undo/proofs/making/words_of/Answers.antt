@@ -1,7 +1,7 @@
 use Rattle.std.proofs.Common.{◌≡◌, sym, ap, subst, ◌∙◌}
 use Rattle.view_hub.specs.Hubs.{CarriedTree, HubTree}
 use Rattle.view_hub.specs.Laws.{IsHub}
-use Rattle.view_hub.specs.Views.{carried_tree, hub_tree}
+use Rattle.view_hub.specs.Views.{hub_carried_tree, hub_tree}
 use Rattle.hub_run.specs.FormLenses.{form_lens}
 use Rattle.hub_run.specs.RunStates.{forms_of_lenses, ready_lens}
 use Rattle.hub_undo.specs.HubUndone.{BringsBack, undone}
@@ -31,7 +31,7 @@ returns-clause-words c =
     let es = edits_of_all (change_trees c.args.changes.now) in
     let h = hub_tree hub.parts in
     let k = hub_tree c.undo_changes.new.hub.parts in
-    let words = carried_tree c.in-Some.words in
+    let words = hub_carried_tree c.in-Some.words in
     let made = rw c.in-Some.is at c.in_ok-words.ensures.undone in
     let back = rw c.in-Some.is at c.in_ok-words.ensures.brings_back in
     λ r is.

@@ -1,6 +1,6 @@
 use Rattle.std.proofs.Common.{◌≡◌, List, [], ◌++◌, Bool, Some, length, sym, ap, subst, ◌∙◌}
 use Rattle.view_hub.specs.Hubs.{CarriedTree}
-use Rattle.view_hub.specs.Views.{carried_tree, hub_tree}
+use Rattle.view_hub.specs.Views.{hub_carried_tree, hub_tree}
 use Rattle.view_hub.specs.declared.side.HubCarried.{HubCarried}
 use Rattle.hub_undo.specs.HubUndone.{BringsBack}
 use Rattle.hub_undo.specs.HubUndoing.{edits_of_all}
@@ -44,7 +44,7 @@ returns-clause-undone g c =
     let none : carried_trees c.new-parts.result.items ≡ [] = ap (λ (cs : List HubCarried). carried_trees cs) c.new-parts.ensures.items in
     let parts : carried_trees c.undo_each.new.parts.items ≡ all.0 = all.1 ∙ ap (λ (cs : List CarriedTree). cs ++ all.0) none in
     let lenses = c.lenses.ensures.lenses ∙ c.in_ok-undo_each.ensures.lenses in
-    let words : carried_tree c.in_ok-words.words ≡ joined_all (length hub.lenses) all.0 =
+    let words : hub_carried_tree c.in_ok-words.words ≡ joined_all (length hub.lenses) all.0 =
     c.in_ok-words.ensures ∙ ap (λ ls. joined_all (length ls) (carried_trees c.undo_each.new.parts.items)) lenses ∙ ap (joined_all (length hub.lenses)) parts in
     ap (λ (w : CarriedTree). Some (k, w)) words ∙ all_over of hub.lenses h es all.0 k all.2
 
@@ -59,6 +59,6 @@ returns-clause-brings_back g c =
     let none : carried_trees c.new-parts.result.items ≡ [] = ap (λ (cs : List HubCarried). carried_trees cs) c.new-parts.ensures.items in
     let parts : carried_trees c.undo_each.new.parts.items ≡ all.0 = all.1 ∙ ap (λ (cs : List CarriedTree). cs ++ all.0) none in
     let lenses = c.lenses.ensures.lenses ∙ c.in_ok-undo_each.ensures.lenses in
-    let words : carried_tree c.in_ok-words.words ≡ joined_all (length hub.lenses) all.0 =
+    let words : hub_carried_tree c.in_ok-words.words ≡ joined_all (length hub.lenses) all.0 =
     c.in_ok-words.ensures ∙ ap (λ ls. joined_all (length ls) (carried_trees c.undo_each.new.parts.items)) lenses ∙ ap (joined_all (length hub.lenses)) parts in
     subst (λ (w : CarriedTree). BringsBack of hub.lenses w k h) (sym words) (all_back of hub.lenses h es all.0 k c.hub-hub.ensures.in_step all.2)

@@ -1,6 +1,6 @@
 use Rattle.std.proofs.Common.{◌≡◌, ◌<◌, length, sym, ap, subst, ◌∙◌}
 use Rattle.view_hub.specs.Laws.{IsHub}
-use Rattle.view_hub.specs.Views.{carried_tree, edit_tree, hub_tree}
+use Rattle.view_hub.specs.Views.{hub_carried_tree, edit_tree, hub_tree}
 use Rattle.view_hub.proofs.ActingWords.{words_act}
 use Rattle.hub_undo.proofs.OneEdit.{edit_acts, edit_undone, refused_view, refused_word, some_lens}
 use Rattle.hub_undo.proofs.stepping.undo_edit.Goals as goal
@@ -15,7 +15,7 @@ words_back-requires-clause-acted g c =
     let old = c.args.hub.now in
     let new = c.step.new.self in
     let before = hub_tree c.in_ok-before.before in
-    let words = carried_tree c.in-Ok.carried in
+    let words = hub_carried_tree c.in-Ok.carried in
     let copy : before ≡ hub_tree old.parts = c.in_ok-before.ensures ∙ ap hub_tree c.parts.ensures.parts in
     let there = subst (λ h. IsHub of old.lenses h) (sym copy) c.parts.ensures.in_step in (
       hub_tree new.parts,
@@ -29,14 +29,14 @@ returns-in-Ok-clause-words g c =
     let old = c.args.hub.now in
     let new = c.step.new.self in
     let before = hub_tree c.in_ok-before.before in
-    let words = carried_tree c.in-Ok.carried in
+    let words = hub_carried_tree c.in-Ok.carried in
     let copy : before ≡ hub_tree old.parts = c.in_ok-before.ensures ∙ ap hub_tree c.parts.ensures.parts in
     let there = subst (λ h. IsHub of old.lenses h) (sym copy) c.parts.ensures.in_step in
     let lenses = c.lenses.ensures.lenses ∙ c.step.ensures.lenses in
     let acts = edit_acts of old.lenses c.lenses.result.now (hub_tree old.parts) before (hub_tree new.parts) (edit_tree c.args.edit.now) words
     lenses copy c.in-Ok.ensures.steps (words_act of g.met.L.EditLens.consistent_is_typed) there in
     edit_undone of old.lenses c.lenses.result.now (hub_tree old.parts) before (hub_tree new.parts) (edit_tree c.args.edit.now) words lenses copy c.in-Ok.ensures.steps
-    (carried_tree c.in_ok-words-in-Ok.words) c.in_ok-words-in-Ok.ensures.is (c.in_ok-words-in-Ok.ensures.back (hub_tree new.parts) acts)
+    (hub_carried_tree c.in_ok-words-in-Ok.words) c.in_ok-words-in-Ok.ensures.is (c.in_ok-words-in-Ok.ensures.back (hub_tree new.parts) acts)
 
 pub returns-in-Err-NoView-clause-words : goal.returns-in-Err-NoView-clause-words
 returns-in-Err-NoView-clause-words g c = refused_view _ _ _ c.in-Err-NoView.field-0-is c.in-Err-NoView.ensures.steps

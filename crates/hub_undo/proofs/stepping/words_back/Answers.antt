@@ -6,7 +6,7 @@ use Rattle.edit_inverse.specs.Inverse.{inverse}
 use Rattle.edit_inverse.specs.Laws.{TakesBack}
 use Rattle.edit_module.specs.Action.{act}
 use Rattle.edit_module.specs.Views.{word_tree, word_trees}
-use Rattle.view_hub.specs.Views.{carried_tree, hub_tree, view_trees}
+use Rattle.view_hub.specs.Views.{hub_carried_tree, hub_tree, view_trees}
 use Rattle.hub_undo.proofs.OneEdit.{acts_count, hub_here, step_words, step_back, words_of_views, lengths_of_trees}
 use Rattle.hub_undo.proofs.stepping.words_back.Goals as goal
 
@@ -16,13 +16,13 @@ word_back-requires-clause-well_formed g c =
 
 pub word_back-requires-clause-typed : goal.word_back-requires-clause-typed
 word_back-requires-clause-typed g c =
-    let here = hub_here g.L.EditLens c.args.lenses.now c.index-lenses-0.result (hub_tree c.args.parts.now) (carried_tree c.args.carried.now) c.requires.acted.0 c.requires.some c.index-lenses-0.is c.requires.acted.1 in
+    let here = hub_here g.L.EditLens c.args.lenses.now c.index-lenses-0.result (hub_tree c.args.parts.now) (hub_carried_tree c.args.carried.now) c.requires.acted.0 c.requires.some c.index-lenses-0.is c.requires.acted.1 in
     subst (λ (t : TyTree). has t (doc_tree c.args.parts.now.hub.value) ≡ true) (sym c.ty.ensures) here.0
 
 pub word_back-requires-clause-acts : goal.word_back-requires-clause-acts
 word_back-requires-clause-acts g c =
     let after = c.requires.acted.0 in
-    let here = hub_here g.L.EditLens c.args.lenses.now c.index-lenses-0.result (hub_tree c.args.parts.now) (carried_tree c.args.carried.now) after c.requires.some c.index-lenses-0.is c.requires.acted.1 in
+    let here = hub_here g.L.EditLens c.args.lenses.now c.index-lenses-0.result (hub_tree c.args.parts.now) (hub_carried_tree c.args.carried.now) after c.requires.some c.index-lenses-0.is c.requires.acted.1 in
     (after.hub, subst (λ (t : TyTree). act t (word_tree c.args.carried.now.hub) (doc_tree c.args.parts.now.hub.value) ≡ Ok after.hub) (sym c.ty.ensures) here.1)
 
 pub views_back-requires-clause-lenses : goal.views_back-requires-clause-lenses
@@ -47,7 +47,7 @@ returns-clause-is g c =
     let ls = c.args.lenses.now in
     let l = c.index-lenses-0.result in
     let h = hub_tree c.args.parts.now in
-    let carried = carried_tree c.args.carried.now in
+    let carried = hub_carried_tree c.args.carried.now in
     let hub = subst (λ (t : TyTree). word_tree c.in_ok-hub.hub ≡ inverse t carried.hub h.hub) c.ty.ensures c.in_ok-hub.ensures.is in
     let views = rw (c.deref.ensures.value, c.as_slice.ensures) at c.in_ok-views.ensures.is in
     step_words of ls l h carried (record { hub = word_tree c.in_ok-hub.hub; views = word_trees c.in_ok-views.views }) c.requires.some c.index-lenses-0.is hub views
@@ -58,7 +58,7 @@ returns-clause-back g c =
     let ls = c.args.lenses.now in
     let l = c.index-lenses-0.result in
     let h = hub_tree c.args.parts.now in
-    let carried = carried_tree c.args.carried.now in
+    let carried = hub_carried_tree c.args.carried.now in
     let back = word_tree c.in_ok-hub.hub in
     let takes = subst (λ (t : TyTree). TakesBack t back (act t carried.hub h.hub) h.hub) c.ty.ensures c.in_ok-hub.ensures.takes_back in
     let views = rw (c.deref.ensures.value, c.as_slice.ensures) at c.in_ok-views.ensures.back in

@@ -6,7 +6,7 @@ use Rattle.store_run.proofs.Openings.{same_room, unwritten_then}
 use Rattle.store_run.proofs.StoredPayloads.{images_held, reads_held}
 use Rattle.store_run.proofs.StoreOpenings.{ends_refused, fails_to_open, refused_by_log, same_fault, same_payloads, unopened_at_disk, unread_log}
 use Rattle.store_run.proofs.MoreCauses.{more_cause, more_complete}
-use Rattle.hub_undo.specs.HubUndoing.{refusal_of_log, snapshot_text, undo_text, undoing}
+use Rattle.hub_undo.specs.HubUndoing.{hub_refusal_of_log, hub_undo_snapshot_text, hub_undo_text, hub_undoing}
 use Rattle.hub_undo.specs.UndoCall.{UndoEnds}
 use Rattle.hub_undo.proofs.UndoCalls.{ends_behind, exits_of, safe_kept, safe_of_ends, undoes_call}
 use Rattle.hub_undo.proofs.undo_call.undo_hub.Goals as goal
@@ -27,7 +27,7 @@ returns-in-Ok-clause-undoes g c =
     λ store done.
     let read = c.in-Ok.ensures.read store.bytes store.told in
     let same = same_payloads store.bytes c.in-Ok.store.payloads store.payloads read.holds store.holds in
-    let here = subst (λ (x : List (List ℕ)). UndoEnds g.K.Sink disk (k, d1) (k', d') x store.undone status) same (c.undo_payloads.ensures.ends store.undone read.stands (ap (undoing c.args.count) same ∙ store.is)) in
+    let here = subst (λ (x : List (List ℕ)). UndoEnds g.K.Sink disk (k, d1) (k', d') x store.undone status) same (c.undo_payloads.ensures.ends store.undone read.stands (ap (hub_undoing c.args.count) same ∙ store.is)) in
     let ends = ends_behind g.K.Sink disk hold reads k k' d1 d' store.payloads store.undone d status c.in-Ok.ensures.opening here in
     undoes_call g.K.Sink disk hold reads k k' d d' store.payloads store.undone status done ends
 
@@ -45,7 +45,7 @@ returns-in-Ok-clause-safe g c =
     λ store.
     let read = c.in-Ok.ensures.read store.bytes store.told in
     let same = same_payloads store.bytes c.in-Ok.store.payloads store.payloads read.holds store.holds in
-    let here = subst (λ (x : List (List ℕ)). UndoEnds g.K.Sink disk (k, d1) (k', d') x store.undone status) same (c.undo_payloads.ensures.ends store.undone read.stands (ap (undoing c.args.count) same ∙ store.is)) in
+    let here = subst (λ (x : List (List ℕ)). UndoEnds g.K.Sink disk (k, d1) (k', d') x store.undone status) same (c.undo_payloads.ensures.ends store.undone read.stands (ap (hub_undoing c.args.count) same ∙ store.is)) in
     let ends = ends_behind g.K.Sink disk hold reads k k' d1 d' store.payloads store.undone d status c.in-Ok.ensures.opening here in
     inr (safe_of_ends g.K.Sink disk hold reads k k' d d' store.payloads store.undone status ends)
 
@@ -63,7 +63,7 @@ returns-in-Ok-clause-exits g c =
     λ store.
     let read = c.in-Ok.ensures.read store.bytes store.told in
     let same = same_payloads store.bytes c.in-Ok.store.payloads store.payloads read.holds store.holds in
-    let here = subst (λ (x : List (List ℕ)). UndoEnds g.K.Sink disk (k, d1) (k', d') x store.undone status) same (c.undo_payloads.ensures.ends store.undone read.stands (ap (undoing c.args.count) same ∙ store.is)) in
+    let here = subst (λ (x : List (List ℕ)). UndoEnds g.K.Sink disk (k, d1) (k', d') x store.undone status) same (c.undo_payloads.ensures.ends store.undone read.stands (ap (hub_undoing c.args.count) same ∙ store.is)) in
     let ends = ends_behind g.K.Sink disk hold reads k k' d1 d' store.payloads store.undone d status c.in-Ok.ensures.opening here in
     exits_of g.K.Sink disk hold reads k k' d d' store.payloads store.undone status ends
 
@@ -75,13 +75,13 @@ returns-in-Ok-clause-disk_fault g c =
 pub returns-in-Ok-clause-causes : goal.returns-in-Ok-clause-causes
 returns-in-Ok-clause-causes g c =
     λ store.
-    more_cause g.K.Sink g.D.Disk store.payloads (snapshot_text store.undone) (undo_text store.undone) c.args.sink.now c.undo_payloads.new.sink c.args.disk.now c.undo_payloads.new.disk store.bytes
+    more_cause g.K.Sink g.D.Disk store.payloads (hub_undo_snapshot_text store.undone) (hub_undo_text store.undone) c.args.sink.now c.undo_payloads.new.sink c.args.disk.now c.undo_payloads.new.disk store.bytes
     c.undo_payloads.result store.told (returns-in-Ok-clause-exits g c store)
 
 pub returns-in-Ok-clause-complete : goal.returns-in-Ok-clause-complete
 returns-in-Ok-clause-complete g c =
     λ store sunk fault none.
-    more_complete c.undo_payloads.result (g.D.Disk.room c.args.disk.now) store.payloads (snapshot_text store.undone) (returns-in-Ok-clause-causes g c store)
+    more_complete c.undo_payloads.result (g.D.Disk.room c.args.disk.now) store.payloads (hub_undo_snapshot_text store.undone) (returns-in-Ok-clause-causes g c store)
     (λ e. sunk (c.undo_payloads.ensures.sink_fault e)) (λ e. fault (returns-in-Ok-clause-disk_fault g c e)) none
 
 pub returns-in-Ok-clause-refused : goal.returns-in-Ok-clause-refused
@@ -96,7 +96,7 @@ returns-in-Ok-clause-refused g c =
     let opening = c.in-Ok.ensures.opening in
     λ other.
     let read = c.in-Ok.ensures.read other.bytes other.told in
-    let e = c.undo_payloads.ensures.refused other.reason (ap (refusal_of_log c.args.count) (sym read.holds) ∙ other.refused) in
+    let e = c.undo_payloads.ensures.refused other.reason (ap (hub_refusal_of_log c.args.count) (sym read.holds) ∙ other.refused) in
     (unwritten_then disk d d1 d' opening.unwritten e.0, same_room g.K.Sink disk k k' d d' status d1 other.reason opening.same_room e.1)
 
 -- ---- the store was not read
@@ -142,13 +142,13 @@ returns-in-Err-clause-disk_fault g c = λ e. c.in-Err.ensures.cause (ap (λ (x :
 pub returns-in-Err-clause-causes : goal.returns-in-Err-clause-causes
 returns-in-Err-clause-causes g c =
     λ store.
-    more_cause g.K.Sink g.D.Disk store.payloads (snapshot_text store.undone) (undo_text store.undone) c.args.sink.now c.refuse_store.new.sink c.args.disk.now c.read_store.new.disk store.bytes
+    more_cause g.K.Sink g.D.Disk store.payloads (hub_undo_snapshot_text store.undone) (hub_undo_text store.undone) c.args.sink.now c.refuse_store.new.sink c.args.disk.now c.read_store.new.disk store.bytes
     c.refuse_store.result store.told (returns-in-Err-clause-exits g c store)
 
 pub returns-in-Err-clause-complete : goal.returns-in-Err-clause-complete
 returns-in-Err-clause-complete g c =
     λ store sunk fault none.
-    more_complete c.refuse_store.result (g.D.Disk.room c.args.disk.now) store.payloads (snapshot_text store.undone) (returns-in-Err-clause-causes g c store)
+    more_complete c.refuse_store.result (g.D.Disk.room c.args.disk.now) store.payloads (hub_undo_snapshot_text store.undone) (returns-in-Err-clause-causes g c store)
     (λ e. sunk (c.refuse_store.ensures.sink_fault e)) (λ e. fault (returns-in-Err-clause-disk_fault g c e)) none
 
 pub returns-in-Err-clause-refused : goal.returns-in-Err-clause-refused
@@ -162,5 +162,5 @@ returns-in-Err-clause-refused g c =
     let fault = c.in-Err.fault in
     let ends = c.refuse_store.ensures.ends in
     λ other.
-    let refused = refused_by_log (refusal_of_log c.args.count) other.bytes other.reason other.refused refl (λ n. refl) fault (c.in-Err.ensures.read other.bytes other.told) in
+    let refused = refused_by_log (hub_refusal_of_log c.args.count) other.bytes other.reason other.refused refl (λ n. refl) fault (c.in-Err.ensures.read other.bytes other.told) in
     (c.in-Err.ensures.opening.unwritten, ends_refused g.K.Sink disk k k' d d1 status fault other.reason refused (λ e. c.in-Err.ensures.sure (ap (λ (x : OpenFault). Err x) e)) ends)

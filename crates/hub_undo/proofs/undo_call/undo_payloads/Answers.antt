@@ -3,7 +3,7 @@ use Rattle.std.proofs.KnownBytes.{Appends-nil}
 use Rattle.store_run.specs.StoreEnds.{StoreEnds}
 use Rattle.store_run.proofs.Openings.{unwritten_none, opening_none}
 use Rattle.store_run.proofs.StoredPayloads.{images_held}
-use Rattle.hub_undo.specs.HubUndoing.{HubUndoing, snapshot_text, undoing, undo_refusal}
+use Rattle.hub_undo.specs.HubUndoing.{HubUndoing, hub_undo_snapshot_text, hub_undoing, hub_undo_refusal}
 use Rattle.hub_undo.specs.UndoCall.{UndoEnds}
 use Rattle.store_undo.specs.Making.{IsMakingFault}
 use Rattle.hub_undo.proofs.UndoRefusals.{same_refusal, never_refused, same_undoing}
@@ -24,7 +24,7 @@ returns-in-Ok-clause-ends g c =
     let more = c.in-Ok.more in
     let status = c.store_last.result in
     λ u st h.
-    let same = same_undoing (undoing c.args.count before) made.u u made.is h in
+    let same = same_undoing (hub_undoing c.args.count before) made.u u made.is h in
     subst (λ (x : HubUndoing). UndoEnds g.K.Sink disk (k, d) (k', d') before x status) same
     (inl (
       record {
@@ -34,7 +34,7 @@ returns-in-Ok-clause-ends g c =
         stands = st;
         opens = opening_none disk only d;
         ends =
-            subst (λ (y : List ℕ). StoreEnds g.K.Sink disk (k, d, l) (k', d', l') y [] (snapshot_text made.u) status) made.lines
+            subst (λ (y : List ℕ). StoreEnds g.K.Sink disk (k, d, l) (k', d', l') y [] (hub_undo_snapshot_text made.u) status) made.lines
             (subst (λ (x : List ℕ). StoreEnds g.K.Sink disk (k, d, l) (k', d', l') more.lines [] x status) made.snapshot c.store_last.ensures.ends);
       },
       made.takes_back,
@@ -48,7 +48,7 @@ returns-in-Ok-clause-refused g c =
 pub returns-in-Err-Refused-clause-ends : goal.returns-in-Err-Refused-clause-ends
 returns-in-Err-Refused-clause-ends g c =
     let fault = rw c.as_slice.ensures at c.in-Err-Refused.ensures in
-    λ u st h. absurd (never_refused c.args.count c.args.payloads.now u c.in-Err-Refused.refusal h (subst (IsMakingFault (undo_refusal c.args.count c.args.payloads.now)) c.in-Err-Refused.field-0-is fault))
+    λ u st h. absurd (never_refused c.args.count c.args.payloads.now u c.in-Err-Refused.refusal h (subst (IsMakingFault (hub_undo_refusal c.args.count c.args.payloads.now)) c.in-Err-Refused.field-0-is fault))
 
 pub returns-in-Err-Refused-clause-refused : goal.returns-in-Err-Refused-clause-refused
 returns-in-Err-Refused-clause-refused g c =
@@ -56,8 +56,8 @@ returns-in-Err-Refused-clause-refused g c =
     let fault = rw c.as_slice.ensures at c.in-Err-Refused.ensures in
     λ refusal q. (
       unwritten_none disk c.args.disk.now,
-      same_refusal g.K.Sink disk c.args.sink.now c.refuse.new.sink c.args.disk.now c.args.disk.now c.refuse.result c.in-Err-Refused.refusal refusal (undo_refusal c.args.count c.args.payloads.now)
-          (subst (IsMakingFault (undo_refusal c.args.count c.args.payloads.now)) c.in-Err-Refused.field-0-is fault) q c.refuse.ensures.refuses,
+      same_refusal g.K.Sink disk c.args.sink.now c.refuse.new.sink c.args.disk.now c.args.disk.now c.refuse.result c.in-Err-Refused.refusal refusal (hub_undo_refusal c.args.count c.args.payloads.now)
+          (subst (IsMakingFault (hub_undo_refusal c.args.count c.args.payloads.now)) c.in-Err-Refused.field-0-is fault) q c.refuse.ensures.refuses,
     )
 
 pub returns-in-Err-NoMemory-clause-ends : goal.returns-in-Err-NoMemory-clause-ends

@@ -6,7 +6,7 @@ use Rattle.lens_core.specs.Complements.{CompTree}
 use Rattle.lens_flat.specs.declared.flat.ReadyForm.{ReadyForm}
 use Rattle.lens_forms.specs.Forms.{form_tree}
 use Rattle.view_hub.specs.Views.{hub_tree}
-use Rattle.hub_run.specs.RunStates.{state_of}
+use Rattle.hub_run.specs.RunStates.{hub_state_of}
 use Rattle.kept_hubs.specs.Parts.{complement_text}
 use Rattle.hub_run.proofs.StateLines.{form_at}
 use Rattle.kept_hubs.proofs.PartTexts.{view_of, comp_is, with_view}
@@ -33,5 +33,5 @@ returns c =
     let form = form_at h.lenses c.args.number lens within is in
     let there = view_of h.lenses (hub_tree h.parts) c.args.number f c.is_in_step.ensures.of_lenses form in
     let comp = comp_is h.parts.views.items c.args.number c.in-Some-comp.comp.now there.view (sym (ap option_copied c.in-Some-comp.is) ∙ c.comp.ensures) there.is in
-    ap (option_map complement_text) (with_view (state_of h) c.args.number f there.view form there.is)
+    ap (option_map complement_text) (with_view (hub_state_of h) c.args.number f there.view form there.is)
     ∙ ap Some (sym ((rw c.typed.ensures at c.in_ok-complement_text.ensures) ∙ ap (λ (e : CompTree). compact_text (tree_of_complement f e)) comp))

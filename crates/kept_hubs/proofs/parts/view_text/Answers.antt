@@ -8,7 +8,7 @@ use Rattle.lens_flat.specs.declared.flat.ReadyForm.{ReadyForm}
 use Rattle.lens_forms.specs.Forms.{form_tree, right_type}
 use Rattle.lens_types.specs.declared.typed.Typed.{Typed}
 use Rattle.view_hub.specs.Views.{hub_tree}
-use Rattle.hub_run.specs.RunStates.{state_of}
+use Rattle.hub_run.specs.RunStates.{hub_state_of}
 use Rattle.kept_hubs.specs.Parts.{document_text}
 use Rattle.hub_run.proofs.StateLines.{form_at}
 use Rattle.kept_hubs.proofs.PartTexts.{view_of, doc_is, with_view}
@@ -34,5 +34,5 @@ returns c =
     let form = form_at h.lenses c.args.number lens within is in
     let there = view_of h.lenses (hub_tree h.parts) c.args.number (form_tree c.in-Some.lens.now.typed) c.is_in_step.ensures.of_lenses form in
     let doc = doc_is h.parts.views.items c.args.number c.in-Some-view.document.now there.view (sym (ap option_copied c.in-Some-view.is) ∙ c.view.ensures) there.is in
-    ap (option_map document_text) (with_view (state_of h) c.args.number (form_tree c.in-Some.lens.now.typed) there.view form there.is)
+    ap (option_map document_text) (with_view (hub_state_of h) c.args.number (form_tree c.in-Some.lens.now.typed) there.view form there.is)
     ∙ ap Some (sym (c.in_ok-document_text.ensures ∙ ap₂ (λ (ty : TyTree) (d : DocTree). compact_text (tree_of_document ty d)) (c.right.ensures.right ∙ ap (λ (u : Typed). right_type (form_tree u)) c.typed.ensures) doc))

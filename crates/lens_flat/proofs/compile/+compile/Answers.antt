@@ -1,5 +1,5 @@
 use Rattle.std.proofs.Common.{ap, subst, ◌∙◌, arith}
-use Rattle.lens_forms.specs.Forms.{RowTrees, ArmTrees, row_list, row_tree}
+use Rattle.lens_forms.specs.Forms.{RowTrees, ArmTrees, form_row_list, row_tree}
 use Rattle.lens_forms.specs.Measures.{rows_parts, arms_parts}
 use Rattle.lens_forms.proofs.TreesOfRows.{row_tree-both}
 use Rattle.lens_core.proofs.FormParts.{row_parts, row_smaller}
@@ -41,7 +41,7 @@ row_nodes-loop-row-preserved t c =
 
 pub row_nodes-returns : goal.row_nodes-returns
 row_nodes-returns t c =
-    subst (λ (rows : RowTrees). AddsLenses c.args.table.now.items c.loop-row.table.items (row_lens (row_list rows)) c.loop-row.inside.items) c.as_slice-row-items.ensures
+    subst (λ (rows : RowTrees). AddsLenses c.args.table.now.items c.loop-row.table.items (row_lens (form_row_list rows)) c.loop-row.inside.items) c.as_slice-row-items.ensures
     (rows_done c.args.table.now.items c.loop-row.table.items c.as_slice-row-items.result.now c.loop-row.row-index c.loop-row.inside.items (omega arith) c.loop-row.invariant)
 
 pub arm_nodes-compile_form-requires : goal.arm_nodes-compile_form-requires

@@ -1,7 +1,7 @@
 use Rattle.std.proofs.Common.{◌≡◌, ◌+◌, ◌++◌, map, take, drop}
 use Rattle.program_terms.specs.Terms.{term_rows_of, term_arms_of}
 use Rattle.program_terms.specs.Views.{arm_tree, arms_tree, lens_tree, row_tree, rows_tree}
-use Rattle.lens_forms.specs.Forms.{row_list, arm_list, row_tree as form_row, arm_tree as form_arm}
+use Rattle.lens_forms.specs.Forms.{form_row_list, form_arm_list, row_tree as form_row, arm_tree as form_arm}
 use Rattle.lens_types.specs.Sizes.{arms_size, lens_size, row_size, rows_size}
 use Rattle.lens_types.specs.Earlier.{expanded_rows, expanded_arms}
 use Rattle.lens_types.specs.Entries.{earlier_tree, weight_before}
@@ -9,13 +9,13 @@ use Rattle.lens_types.proofs.expansion.+expanded_lens.Given as goal
 
 abbrev pub invariant-expanded_rows-loop-row : goal.invariant-expanded_rows-loop-row
 invariant-expanded_rows-loop-row l =
-    map form_row l.items.items ++ row_list (expanded_rows (take l.scope (earlier_tree l.earlier)) (term_rows_of (map row_tree (drop l.row-index l.row-items))))
-    ≡ row_list (expanded_rows (take l.scope (earlier_tree l.earlier)) (term_rows_of (map row_tree l.row-items)))
+    map form_row l.items.items ++ form_row_list (expanded_rows (take l.scope (earlier_tree l.earlier)) (term_rows_of (map row_tree (drop l.row-index l.row-items))))
+    ≡ form_row_list (expanded_rows (take l.scope (earlier_tree l.earlier)) (term_rows_of (map row_tree l.row-items)))
 
 abbrev pub invariant-expanded_arms-loop-arm : goal.invariant-expanded_arms-loop-arm
 invariant-expanded_arms-loop-arm l =
-    map form_arm l.items.items ++ arm_list (expanded_arms (take l.scope (earlier_tree l.earlier)) (term_arms_of (map arm_tree (drop l.arm-index l.arm-items))))
-    ≡ arm_list (expanded_arms (take l.scope (earlier_tree l.earlier)) (term_arms_of (map arm_tree l.arm-items)))
+    map form_arm l.items.items ++ form_arm_list (expanded_arms (take l.scope (earlier_tree l.earlier)) (term_arms_of (map arm_tree (drop l.arm-index l.arm-items))))
+    ≡ form_arm_list (expanded_arms (take l.scope (earlier_tree l.earlier)) (term_arms_of (map arm_tree l.arm-items)))
 
 abbrev pub decreases-expanded_lens : goal.decreases-expanded_lens
 decreases-expanded_lens l = weight_before l.scope l.earlier.now + lens_size (lens_tree l.lens.now)

@@ -1,7 +1,7 @@
 use Rattle.program_grammar.specs.Mentions.{definition_without_notes, without_notes}
 use Rattle.std.proofs.Common.{[], map}
 use Rattle.program_terms.specs.Views.{definitions_tree, program_tree}
-use Rattle.program_reader.specs.Causes.{cause_of}
+use Rattle.program_reader.specs.Causes.{read_cause}
 use Rattle.program_reader.specs.Known.{first_fault_among}
 use Rattle.program_reader.specs.Programs.{program_with_notes}
 use Rattle.program_reader.proofs.CheckedNames.{with_main, still_refused}
@@ -15,4 +15,4 @@ returns-in-Ok c =
 pub returns-in-Err : goal.returns-in-Err
 returns-in-Err c =
     let p = program_with_notes c.args.program in
-    still_refused (cause_of c.in-Err.fault) (first_fault_among [] p.definitions p.mentions) (map definition_without_notes p.definitions) (without_notes p) (rw c.deref.ensures.value at c.in-Err.ensures)
+    still_refused (read_cause c.in-Err.fault) (first_fault_among [] p.definitions p.mentions) (map definition_without_notes p.definitions) (without_notes p) (rw c.deref.ensures.value at c.in-Err.ensures)

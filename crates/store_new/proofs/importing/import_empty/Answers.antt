@@ -9,6 +9,7 @@ use Rattle.store_new.proofs.InitEnds.{never_device}
 use Rattle.store_new.specs.Import.{import_command}
 use Rattle.store_new.proofs.ImportEnds.{brings_no_room, brought}
 use Rattle.store_new.proofs.importing.import_empty.Goals as goal
+use Rattle.store_run.specs.Devices.{devices_of}
 
 pub returns-in-Ok-clause-ends : goal.returns-in-Ok-clause-ends
 returns-in-Ok-clause-ends g c =
@@ -32,7 +33,7 @@ returns-in-Err-Stopped-clause-ends g c =
     let s' = c.read_import.new.source in
     let k = c.args.sink.now in
     let d = c.args.disk.now in
-    subst (λ status. Ends g.S.Source g.K.Sink g.D.Disk import_command (s, k, d) (s', k, d) status) (sym c.status_at.ensures)
+    subst (λ status. Ends g.S.Source g.K.Sink g.D.Disk import_command (devices_of s k d) (devices_of s' k d) status) (sym c.status_at.ensures)
     (ends_front g.S.Source g.K.Sink g.D.Disk import_command s s' k d c.in-Err-Stopped.fault r)
 
 pub returns-in-Err-Refused-clause-source_fault : goal.returns-in-Err-Refused-clause-source_fault

@@ -2,6 +2,7 @@ use Rattle.std.proofs.Common.{◌≡◌, inl, inr, ℕ, List, Option, Result, Ok
 use Rattle.command_ends.proofs.AmongStatuses.{quiet_applies, quiet_reads_nothing}
 use Rattle.gate_log.specs.LogOnDisk.{HoldsPayloads}
 use Rattle.lens_io.proofs.Increases.{increased_since}
+use Rattle.store_run.specs.Devices.{devices_of}
 use Rattle.store_run.specs.ApplyCall.{ContinuesCall, EndsOpened, IsSafeCall}
 use Rattle.store_run.specs.declared.opening.OpenFault.{OpenFault}
 use Rattle.store_run.specs.declared.opening.OpenFault.TheVariants.{DiskFault}
@@ -43,7 +44,7 @@ returns-in-Ok-clause-continues g c =
     let before = store.payloads in
     let same = as_opened disk session d d1 store made o in
     let stands = store.stands ∙ ap (λ (x : session.State × Option (List ℕ)). Ok x) (sym same) in
-    subst (λ (x : session.State × Option (List ℕ)). ContinuesCall source sink disk session (i, k) (i', k', d') before x.0 x.1 status) same
+    subst (λ (x : session.State × Option (List ℕ)). ContinuesCall source sink disk session (i, k) (devices_of i' k' d') before x.0 x.1 status) same
     (continues_call source sink disk session hold reads laws.version_stands laws.change_stands laws.refused_stays laws.version_counts laws.change_counts i i' k k' d1 d' l l' before v0 t0 t' status e.exits f o.stands stands)
 
 pub returns-in-Ok-clause-safe : goal.returns-in-Ok-clause-safe
@@ -75,7 +76,7 @@ returns-in-Ok-clause-safe g c =
     let before = store.payloads in
     let same = as_opened disk session d d1 store made o in
     let stands = store.stands ∙ ap (λ (x : session.State × Option (List ℕ)). Ok x) (sym same) in
-    let here = subst (λ (x : session.State × Option (List ℕ)). IsSafeCall source sink disk session (i, k, d1) (i', k', d') (HoldsPayloads before) before x.0 x.1) same
+    let here = subst (λ (x : session.State × Option (List ℕ)). IsSafeCall source sink disk session (devices_of i k d1) (devices_of i' k' d') (HoldsPayloads before) before x.0 x.1) same
     (safe_call source sink disk session hold reads laws.version_stands laws.change_stands laws.refused_stays laws.version_counts laws.change_counts i i' k k' d1 d' before v0 t0 l e.safe o.stands stands) in
     inr (safe_later source sink disk session hold reads laws.version_stands laws.change_stands laws.refused_stays laws.version_counts laws.change_counts (HoldsPayloads before) (disk.images d) i i' k k' d d1 d' before store.version store.state
     (held_first source sink disk session hold reads laws.version_stands laws.change_stands laws.refused_stays laws.version_counts laws.change_counts before (disk.images d)) c.in-Ok.ensures.opening.moments here)
@@ -109,7 +110,7 @@ returns-in-Ok-clause-exits g c =
     let before = store.payloads in
     let same = as_opened disk session d d1 store made o in
     let stands = store.stands ∙ ap (λ (x : session.State × Option (List ℕ)). Ok x) (sym same) in
-    let here = subst (λ (x : session.State × Option (List ℕ)). EndsOpened source sink disk session (i, k, d1) (i', k', d') before x.0 x.1 status) same
+    let here = subst (λ (x : session.State × Option (List ℕ)). EndsOpened source sink disk session (devices_of i k d1) (devices_of i' k' d') before x.0 x.1 status) same
     (opened_here source sink disk session hold reads laws.version_stands laws.change_stands laws.refused_stays laws.version_counts laws.change_counts g.met.D.Disk.only_now i i' k k' d1 d' l l' before v0 t0 t' status e.exits o.stands stands) in
     inl (opened_later source sink disk session i i' k k' d d1 d' before store.state store.version status c.in-Ok.ensures.opening here)
 

@@ -6,7 +6,7 @@ use Rattle.store_run.proofs.Openings.{unwritten_none, opening_none}
 use Rattle.store_run.proofs.StoredPayloads.{images_held}
 use Rattle.store_undo.specs.Making.{IsMakingFault}
 use Rattle.store_undo.specs.UndoEnds.{UndoEnds}
-use Rattle.store_undo.specs.UndoRecords.{version_due, snapshot_text}
+use Rattle.store_undo.specs.UndoRecords.{version_due, undo_snapshot_text}
 use Rattle.store_undo.specs.Undoing.{Undoing, undoing, undo_refusal}
 use Rattle.store_undo.proofs.UndoRefusals.{same_refusal, never_refused, same_undoing}
 use Rattle.store_undo.proofs.undo_call.undo_payloads.Goals as goal
@@ -36,8 +36,8 @@ returns-in-Ok-clause-ends g c =
       opens = opening_none disk only d;
       takes_back = made.takes_back;
       ends =
-          subst (λ (y : List ℕ). StoreEnds g.K.Sink disk (k, d, l) (k', d', l') y (option_to_list (version_due made.u.now.version)) (snapshot_text made.u) status) made.lines
-          (subst (λ (v : Option (List ℕ)). StoreEnds g.K.Sink disk (k, d, l) (k', d', l') making.texts.lines (option_to_list v) (snapshot_text made.u) status) made.version
+          subst (λ (y : List ℕ). StoreEnds g.K.Sink disk (k, d, l) (k', d', l') y (option_to_list (version_due made.u.now.version)) (undo_snapshot_text made.u) status) made.lines
+          (subst (λ (v : Option (List ℕ)). StoreEnds g.K.Sink disk (k, d, l) (k', d', l') making.texts.lines (option_to_list v) (undo_snapshot_text made.u) status) made.version
           (subst (λ (x : List ℕ). StoreEnds g.K.Sink disk (k, d, l) (k', d', l') making.texts.lines (option_to_list making.version) x status) made.snapshot
           c.store_last.ensures.ends));
     }))

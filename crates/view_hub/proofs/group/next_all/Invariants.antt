@@ -1,7 +1,7 @@
 use Rattle.std.proofs.Common.{◌≡◌, drop, length, map}
 use Rattle.view_hub.specs.Groups.{step_group}
 use Rattle.view_hub.specs.Laws.{IsHub}
-use Rattle.view_hub.specs.Views.{carried_tree, edit_trees, hub_tree}
+use Rattle.view_hub.specs.Views.{hub_carried_tree, edit_trees, hub_tree}
 use Rattle.view_hub.proofs.GroupSteps.{remaining}
 use Rattle.view_hub.proofs.group.next_all.Given as goal
 
@@ -12,6 +12,6 @@ invariant-loop-part g l =
     record {
       in_step : IsHub lens l.lenses (hub_tree l.current);
       words : length l.words.items ≡ l.part;
-      left : remaining lens l.lenses (map carried_tree l.words.items) (hub_tree l.current) (edit_trees (drop l.part l.edits))
+      left : remaining lens l.lenses (map hub_carried_tree l.words.items) (hub_tree l.current) (edit_trees (drop l.part l.edits))
           ≡ step_group lens l.lenses (hub_tree l.parts) (edit_trees l.edits);
     }

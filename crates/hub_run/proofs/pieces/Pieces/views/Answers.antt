@@ -6,7 +6,7 @@ use Rattle.lens_types.specs.declared.typed.Typed.{Typed}
 use Rattle.script_input.specs.Parts.{HoldsPart}
 use Rattle.script_input.specs.declared.script.ProgramText.{ProgramText}
 use Rattle.script_input.proofs.Outcomes.{by_error}
-use Rattle.hub_run.specs.FoundLenses.{IsRefused, HasLeft}
+use Rattle.hub_run.specs.FoundLenses.{IsRefusedHub, HasLeft}
 use Rattle.hub_run.specs.declared.views.HubRefused.TheVariants.{NoMemory}
 use Rattle.hub_run.specs.Lenses.{HubRefusal, too_many_views, first_left, form_of_view, forms_of}
 use Rattle.hub_run.proofs.FoundLoops.{view_found, view_not_found, last_found, last_not_found, few_forms, many_forms, kept_few, kept_many, view_joins, last_joins}
@@ -49,12 +49,12 @@ returns-in_err-view-clause-views c = λ ended begun h.
     let is = subst (λ (ks : List ProgramText). piece ≡ get_or ks l.piece-index piece) pieces_are c.piece-item.is in
     let p = kept_few k.is_many k.ended.items k.begun ended begun c.if-self.false h in
     let fault = c.in_err-view.field-0.0 in
-    let refused = subst (λ (ts : List Typed). (text : List ℕ) → HoldsPart piece text → IsRefused (form_of_view (first_left (map form_tree ts)) (length ts) text) fault) c.deref.ensures.value c.in_err-view.ensures.view in
+    let refused = subst (λ (ts : List Typed). (text : List ℕ) → HoldsPart piece text → IsRefusedHub (form_of_view (first_left (map form_tree ts)) (length ts) text) fault) c.deref.ensures.value c.in_err-view.ensures.view in
     let none = view_not_found k.ended.items ended l.piece-index piece l.lenses.items begun fault within is p.1 refused in
     let all = forms_of (ended ++ begun ∷ []) in
-    let here = subst (λ (r : Result (List FormTree) HubRefusal). IsRefused r fault) (sym (few_forms ended begun p.0))
-    (subst (λ (r : Result (List FormTree) HubRefusal). IsRefused r fault) (l.invariant.goes ended begun p.1) none) in
-    by_error c.from_residual.result (λ v. AreViews (ended ++ begun ∷ []) (map program_tree v.programs.items) (map form_tree v.lenses.items)) (IsRefused all) (λ f. f ≡ fault) (λ f e. subst (IsRefused all) (sym e) here) c.from_residual.ensures.1
+    let here = subst (λ (r : Result (List FormTree) HubRefusal). IsRefusedHub r fault) (sym (few_forms ended begun p.0))
+    (subst (λ (r : Result (List FormTree) HubRefusal). IsRefusedHub r fault) (l.invariant.goes ended begun p.1) none) in
+    by_error c.from_residual.result (λ v. AreViews (ended ++ begun ∷ []) (map program_tree v.programs.items) (map form_tree v.lenses.items)) (IsRefusedHub all) (λ f. f ≡ fault) (λ f e. subst (IsRefusedHub all) (sym e) here) c.from_residual.ensures.1
 
 pub returns-in_err-view-2-clause-views : goal.returns-in_err-view-2-clause-views
 returns-in_err-view-2-clause-views c = λ ended begun h.
@@ -63,18 +63,18 @@ returns-in_err-view-2-clause-views c = λ ended begun h.
     let past = subst (λ (ks : List ProgramText). length ks ≤ l.piece-index) c.deref-piece-items.ensures.value c.loop-piece-test.false in
     let p = kept_few k.is_many k.ended.items k.begun ended begun c.if-self.false h in
     let fault = c.in_err-view-2.field-0.0 in
-    let refused = subst (λ (ts : List Typed). (text : List ℕ) → HoldsPart k.begun text → IsRefused (form_of_view (first_left (map form_tree ts)) (length ts) text) fault) c.deref-2.ensures.value c.in_err-view-2.ensures.view in
+    let refused = subst (λ (ts : List Typed). (text : List ℕ) → HoldsPart k.begun text → IsRefusedHub (form_of_view (first_left (map form_tree ts)) (length ts) text) fault) c.deref-2.ensures.value c.in_err-view-2.ensures.view in
     let none = last_not_found k.ended.items ended l.piece-index l.lenses.items begun fault past p.1 (refused begun p.2) in
     let all = forms_of (ended ++ begun ∷ []) in
-    let here = subst (λ (r : Result (List FormTree) HubRefusal). IsRefused r fault) (sym (few_forms ended begun p.0))
-    (subst (λ (r : Result (List FormTree) HubRefusal). IsRefused r fault) (l.invariant.goes ended begun p.1) none) in
-    by_error c.from_residual-in_err-view-2.result (λ v. AreViews (ended ++ begun ∷ []) (map program_tree v.programs.items) (map form_tree v.lenses.items)) (IsRefused all) (λ f. f ≡ fault) (λ f e. subst (IsRefused all) (sym e) here) c.from_residual-in_err-view-2.ensures.1
+    let here = subst (λ (r : Result (List FormTree) HubRefusal). IsRefusedHub r fault) (sym (few_forms ended begun p.0))
+    (subst (λ (r : Result (List FormTree) HubRefusal). IsRefusedHub r fault) (l.invariant.goes ended begun p.1) none) in
+    by_error c.from_residual-in_err-view-2.result (λ v. AreViews (ended ++ begun ∷ []) (map program_tree v.programs.items) (map form_tree v.lenses.items)) (IsRefusedHub all) (λ f. f ≡ fault) (λ f e. subst (IsRefusedHub all) (sym e) here) c.from_residual-in_err-view-2.ensures.1
 
 pub returns-in_err-push-3-clause-views : goal.returns-in_err-push-3-clause-views
 returns-in_err-push-3-clause-views c = λ ended begun h.
     let all = forms_of (ended ++ begun ∷ []) in
-    by_error c.from_residual-in_err-push-3.result (λ v. AreViews (ended ++ begun ∷ []) (map program_tree v.programs.items) (map form_tree v.lenses.items)) (IsRefused all) (λ f. f ≡ NoMemory)
-    (λ f e. subst (IsRefused all) (sym e) tt) c.from_residual-in_err-push-3.ensures.1
+    by_error c.from_residual-in_err-push-3.result (λ v. AreViews (ended ++ begun ∷ []) (map program_tree v.programs.items) (map form_tree v.lenses.items)) (IsRefusedHub all) (λ f. f ≡ NoMemory)
+    (λ f e. subst (IsRefusedHub all) (sym e) tt) c.from_residual-in_err-push-3.ensures.1
 
 pub returns-clause-views : goal.returns-clause-views
 returns-clause-views c = λ ended begun h.
