@@ -25,7 +25,13 @@ user_pref("network.connectivity-service.enabled", false);
 user_pref("browser.safebrowsing.malware.enabled", false);
 user_pref("browser.safebrowsing.phishing.enabled", false);
 user_pref("browser.startup.homepage", "about:blank");
+user_pref("browser.startup.page", 0);
 user_pref("startup.homepage_welcome_url", "about:blank");
+user_pref("browser.newtabpage.enabled", false);
+user_pref("browser.newtabpage.activity-stream.enabled", false);
+user_pref("dom.ipc.processPrelaunch.enabled", false);
+user_pref("dom.ipc.processCount", 1);
+user_pref("extensions.update.enabled", false);
 """
 COMMANDS = {
     ("POST", "/url"): "Navigate",
@@ -52,7 +58,8 @@ class Firefox(Browser):
             file.write(SETTINGS)
         words = [path, "--headless", "--no-remote", "--marionette", "--profile", self._room.name, "about:blank"]
         self.driver = subprocess.Popen(words, env={**os.environ, "HOME": self._room.name}, stdout=subprocess.DEVNULL, stderr=subprocess.DEVNULL)
-        self._number, self._line = 0, None
+        self._number = 0
+        self._line: Any = None
         try:
             self._line = self._connected()
             limits = {"script": 1000 * ANSWER, "pageLoad": 1000 * ANSWER, "implicit": 0}

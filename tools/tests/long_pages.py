@@ -32,6 +32,11 @@ const look = () => {
 };
 requestAnimationFrame(look);
 """
+UP = """
+const [done] = arguments;
+document.querySelector("#left .document").scrollTop -= 300;
+requestAnimationFrame(() => setTimeout(done));
+"""
 SIGHT = """
 const sight = document.querySelector(`#${arguments[0]} .document`).getBoundingClientRect();
 const inSight = [...document.querySelectorAll(`#${arguments[0]} .entry`)].filter((it) => {
@@ -90,6 +95,11 @@ def test_a_document_of_2000_records():
         page.find(window.control("right", ("rows", 2000, "title")))
 
 
+def is_whole(seen, near):
+    """Whether the items in sight are some behind one another without a hole, about where they are wanted."""
+    return len(seen) > 5 and seen == list(range(seen[0], seen[-1] + 1)) and abs(seen[0] - near) < 1_000
+
+
 def test_20000_records_are_scrolled():
     """The end of a list of 20,000 records is painted soon after it is scrolled to, and what is in sight on the way is drawn without holes."""
     with opened(people(20_000)) as window:
@@ -100,8 +110,7 @@ def test_20000_records_are_scrolled():
         assert page.run(DRAWN) <= MOST_DRAWN
         for part in (0.5, 0.25, 0.2502, 0.2504, 0):
             page.run("const it = document.querySelector('#left .document'); it.scrollTop = arguments[0] * it.scrollHeight", part)
-            wanted = lambda part=part: (seen := page.run(SIGHT, "left")) and seen == list(range(seen[0], seen[-1] + 1)) and len(seen) > 5 and abs(seen[0] - part * 20_000) < 1_000
-            page.until(wanted, lambda part=part: f"{part}: in sight are {page.run(SIGHT, 'left')}")
+            page.until(lambda: is_whole(page.run(SIGHT, "left"), part * 20_000), lambda: f"{part}: in sight are {page.run(SIGHT, 'left')}")
         window.click("left", ("people", 0), "fold")
         before = used(page)
         window.write("left", ("people", 0, "name"), "Ida", "Enter")
@@ -121,7 +130,7 @@ def test_what_comes_into_sight_is_whole():
         for _ in range(40):
             if 900 in page.run(SIGHT, "left"):
                 break
-            page.wait_for("const it = document.querySelector('#left .document'); it.scrollTop -= 300; requestAnimationFrame(() => setTimeout(arguments[0]))")
+            page.wait_for(UP)
         assert 900 in page.run(SIGHT, "left"), page.run(SIGHT, "left")
         entry = f"#left [data-place={json.dumps('/people/900')}]"
         assert window.says(f"{entry} .mark") == "changed", window.says(entry)

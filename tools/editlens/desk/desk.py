@@ -109,7 +109,8 @@ class Desk(Shared):
         try:
             return RunKeeper(program_text, forms=self.keeper.forms), []
         except FormFault as why:
-            return RunKeeper(program_text), [f"The form files do not fit this program, so the files are not shown: {it}" for it in str(why).split("\n")]
+            said = "The form files do not fit this program, so the files are not shown"
+            return RunKeeper(program_text), [f"{said}: {it}" for it in str(why).split("\n")]
 
     def _taken(self, before, side, edit, answer):
         words = {side: edit, answer.side: answer.word}

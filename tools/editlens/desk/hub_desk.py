@@ -55,9 +55,8 @@ class HubDesk(Shared):
         return {"ok": False, "sentence": "A hub keeps the lens programs of its views. edithub add gives a stored hub one view more."}
 
     def _more(self, view: int) -> dict[str, Any]:
-        views = [
-            {"number": it, "about": _about(self.keeper.types[it]), "changed": bool(self.changes.get(it))} for it in range(len(self.lenses))
-        ]
+        types, changes = self.keeper.types, self.changes
+        views = [{"number": it, "about": _about(types[it]), "changed": bool(changes.get(it))} for it in range(len(self.lenses))]
         return {"files": False, "hub": {"view": view, "views": views}}
 
     def _told(self) -> Callable[[list], dict[str, Any]]:

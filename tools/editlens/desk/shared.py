@@ -59,7 +59,7 @@ class Shared:
                 "title": self.title,
                 "version": self.version,
                 "session": self.session,
-                **self._documents_for(*known[:2], view),
+                **self._documents_for(known[0], known[1], view),
                 **self._complement_for(known[0], known[2], view),
                 "history": self.history,
                 "notices": self.notices,

@@ -4,8 +4,11 @@ import * as calls from "./calls.js";
 import { byId, element } from "./elements.js";
 import { linesOf, textOf } from "./file_lines.js";
 import { Rows } from "./rows.js";
+import { pointer } from "./words.js";
 
 const LONGEST = 2_000;
+
+const field = (attributes) => element("input", { type: "text", autocomplete: "off", spellcheck: "false", ...attributes });
 
 /** The second view of a side. `desk` is the page, and `side` the side of which it is. */
 export class FileView {
@@ -23,7 +26,8 @@ export class FileView {
     this.box.addEventListener("keydown", (event) => this.pressed(event));
     this.box.addEventListener("click", (event) => this.clicked(event.target.closest("[data-line]")));
     this.editor.addEventListener("keydown", (event) => event.key === "Escape" && this.leave());
-    for (const it of this.section.querySelectorAll(".views button")) it.addEventListener("click", () => this.choose(it.value === "file"));
+    this.choices = [...this.section.querySelectorAll(".views button")];
+    for (const it of this.choices) it.addEventListener("click", () => this.choose(it.value === "file"));
     const byPatch = this.find(".by-patch");
     byPatch.querySelector("button").addEventListener("click", () => this.send(byPatch.querySelector("textarea").value));
   }
@@ -42,7 +46,7 @@ export class FileView {
   draw(state) {
     const isShown = this.isShown && Boolean(state.files);
     this.find(".views").hidden = !state.files;
-    for (const it of this.section.querySelectorAll(".views button")) it.setAttribute("aria-pressed", String((it.value === "file") === isShown));
+    for (const it of this.choices) it.setAttribute("aria-pressed", String((it.value === "file") === isShown));
     for (const name of [".file", ".by-patch"]) this.find(name).hidden = !isShown;
     for (const name of [".document", ".by-hand"]) this.find(name).hidden = isShown;
     this.find(".filter").hidden = isShown || !this.side.hasFilter;
@@ -75,7 +79,8 @@ export class FileView {
 
   /** Marks the line that is chosen, which a screen reader reads. */
   mark() {
-    for (const it of this.box.querySelectorAll(".line")) it.setAttribute("aria-selected", String(Number(it.dataset.line) === this.at));
+    const isChosen = (it) => String(Number(it.dataset.line) === this.at);
+    for (const it of this.box.querySelectorAll(".line")) it.setAttribute("aria-selected", isChosen(it));
     if (this.lines.length) this.box.setAttribute("aria-activedescendant", `${this.side.side}-line-${this.at}`);
     else this.box.removeAttribute("aria-activedescendant");
   }
@@ -108,7 +113,7 @@ export class FileView {
     const base = this.desk.state.version;
     const name = place || "the file";
     const text = textOf(tree);
-    const value = element("input", { type: "text", "aria-label": `${name}: its value, as JSON`, value: text.length > LONGEST ? "" : text, autocomplete: "off", spellcheck: "false" });
+    const value = field({ "aria-label": `${name}: its value, as JSON`, value: text.length > LONGEST ? "" : text });
     const put = (op, at, written) => this.put(op, at, written, base);
     const button = (words, label, press) => element("button", { type: "button", "aria-label": `${name}: ${label}`, onclick: press }, words);
     const set = () => put("replace", place, value.value);
@@ -125,12 +130,12 @@ export class FileView {
   /** What adds something to an array or an object. */
   adders(sort, place, name, put) {
     if (sort === "value") return [];
-    const fresh = element("input", { type: "text", class: "fresh", placeholder: "a new value, as JSON", "aria-label": `${name}: a new value, as JSON`, autocomplete: "off", spellcheck: "false" });
-    const member = sort === "object"
-      ? element("input", { type: "text", class: "fresh", placeholder: "its name", "aria-label": `${name}: the name of a new member`, autocomplete: "off", spellcheck: "false" })
-      : null;
-    const to = () => `${place}/${member ? member.value.replaceAll("~", "~0").replaceAll("/", "~1") : "-"}`;
-    const add = element("button", { type: "button", "aria-label": `${name}: add the new value`, onclick: () => put("add", to(), fresh.value) }, "Add");
+    const fresh = field({ class: "fresh", placeholder: "a new value, as JSON", "aria-label": `${name}: a new value, as JSON` });
+    const called = { class: "fresh", placeholder: "its name", "aria-label": `${name}: the name of a new member` };
+    const member = sort === "object" ? field(called) : null;
+    const to = () => (member ? `${place}${pointer([member.value])}` : `${place}/-`);
+    const press = () => put("add", to(), fresh.value);
+    const add = element("button", { type: "button", "aria-label": `${name}: add the new value`, onclick: press }, "Add");
     return [...(member ? [member] : []), fresh, add];
   }
 
@@ -148,7 +153,8 @@ export class FileView {
       try {
         JSON.parse(value);
       } catch (why) {
-        await this.desk.answered(this.side, { cause: "not-json", place: null, side: this.side.side, sentence: `This is not JSON, where a text stands between quotes: ${why.message}` });
+        const sentence = `This is not JSON, where a text stands between quotes: ${why.message}`;
+        await this.desk.answered(this.side, { cause: "not-json", place: null, side: this.side.side, sentence });
         return;
       }
     }

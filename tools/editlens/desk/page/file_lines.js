@@ -26,7 +26,8 @@ export function linesOf(tree) {
 function add(tree, { path, front, depth, tail }, lines) {
   const sort = sortOf(tree);
   const inner = sort === "value" ? [] : entriesOf(tree);
-  const line = (text) => ({ text: `${INDENT.repeat(depth)}${text}`, place: pointer(path), sort, tree, isItem: typeof path.at(-1) === "number" });
+  const what = { place: pointer(path), sort, tree, isItem: typeof path.at(-1) === "number" };
+  const line = (text) => ({ text: `${INDENT.repeat(depth)}${text}`, ...what });
   if (sort === "value" || inner.length === 0) {
     lines.push(line(`${front}${sort === "value" ? tree : ENDS[sort].join("")}${tail}`));
     return;

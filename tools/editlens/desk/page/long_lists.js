@@ -32,9 +32,11 @@ export function turnTo(number, name, view) {
 /** Buttons that lead to both ends of a long list, for its head and for its foot. */
 export function endButtons(count, place, name, keyOf, view) {
   if (count <= MOST) return { toEnd: null, toStart: null };
-  const button = (words, role, number) => element("button", {
-    type: "button", "data-key": keyOf(place, role), "aria-label": `${place.label}: ${words.toLowerCase()}`, onclick: () => view.longLists.get(name)?.reach(number),
-  }, words);
+  const button = (words, role, number) => {
+    const press = () => view.longLists.get(name)?.reach(number);
+    const label = `${place.label}: ${words.toLowerCase()}`;
+    return element("button", { type: "button", "data-key": keyOf(place, role), "aria-label": label, onclick: press }, words);
+  };
   return { toEnd: button("To the end", "page-last", count - 1), toStart: button("To the start", "page-first", 0) };
 }
 
