@@ -3,7 +3,7 @@
 
 A line is for a list of so many records of four fields, in both documents. It has two times in milliseconds: from the call of the page
 until both documents are painted, and from a press of + until both documents are painted with the change. Each is the middle one of five.
-The second should grow slower than the records: the page draws 50 of them at once, and the state that is sent has them all.
+The second should grow slower than the records: the page draws 80 of them at once, and the state that is sent has them all.
 """
 
 import os

@@ -174,6 +174,10 @@ class Browser:
         """Runs JavaScript in the page and returns what it returns. What is given is `arguments`."""
         return self._do("POST", "/execute/sync", {"script": script, "args": list(given)})
 
+    def wait_for(self, script: str, *given: Any) -> Any:
+        """Runs JavaScript in the page, and returns what it calls its last argument with."""
+        return self._do("POST", "/execute/async", {"script": script, "args": list(given)})
+
     def find(self, selector: str) -> Any:
         """The first element of a selector, once it is there."""
         return self.until(lambda: self._found(selector), f"there is no {selector}")

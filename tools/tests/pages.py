@@ -307,27 +307,6 @@ def test_texts_are_texts():
         assert made == 0
 
 
-def test_a_document_of_2000_records():
-    program = "main {people ~ rows: each {name ~ title: id text, phone ~ tel: id text, score ~ points: id int, left note: text}}"
-    keeper = RunKeeper(program)
-    keeper.entry("left", [{"at": ["people", [{"ins": 2_000}, {"mod": [1_999, [{"at": ["name", [{"set": "the last"}]]}]]}]]}])
-    shown, drawn = "return document.querySelector(arguments[0])?.value", "return document.querySelectorAll('#left .entry, #right .entry').length"
-    with opened(Desk(keeper, "many")) as window:
-        page, value = window.browser, lambda side, path: window.browser.run(shown, window.control(side, path))
-        # However many records there are, a page draws so few of them that it is drawn at once.
-        assert page.run(drawn) == 100, page.run(drawn)
-        for side, field in (("left", "people"), ("right", "rows")):
-            window.click(side, (field,), "fold-all")
-        window.write("left", ("people", 1, "name"), "Ida", "Enter")
-        window.after(1)
-        assert value("right", ("rows", 1, "title")) == "Ida" and page.run(drawn) == 100
-        page.click("#right [data-key='/rows|page-last']")
-        page.until(lambda: value("right", ("rows", 1999, "title")) == "the last", "the last part is not shown")
-        window.click("right", ("rows",), "add")
-        window.after(2)
-        page.find(window.control("right", ("rows", 2000, "title")))
-
-
 def test_a_replay_forward_and_back():
     with open(os.path.join(TOP, "examples", "tasks.script"), encoding="utf-8") as file:
         replay = Replay(file.read(), "tasks.script")

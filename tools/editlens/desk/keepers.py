@@ -1,7 +1,10 @@
 """Where the session of a desk is kept: in a run of the program, which keeps nothing, or in a store.
 
 Both have the program's text, both types, both documents and the complement. `entry` sends an edit of a side; a refused one is raised as
-Refused. `undo` takes the last change back. A session in no store can take back one change after another, and `redo` makes them again.
+Refused. `patch` sends a JSON Patch of the user's file of a side, which `files` has. `undo` takes the last change back. A session in no store
+can take back one change after another, and `redo` makes them again.
+
+`forms` has the form files of the sides that have one, each a tree of JSON.
 """
 
 from __future__ import annotations
@@ -15,11 +18,14 @@ from ..documents import misfits
 from ..json_text import read_json, write_json
 from ..lines import lines_of
 from ..load import Disagreement, DoesNotFit, load_words
+from ..natural.files import Files, Patched
 from ..open_store import stored_program
 from ..parts import SEPARATOR, program_of
 from ..session import DocumentsDiffer, Session
 from ..store import Store
 from ..types import Ty
+
+Forms = dict[str, Any]
 
 
 class RunKeeper:
@@ -27,9 +33,9 @@ class RunKeeper:
 
     is_store = False
 
-    def __init__(self, program_text: str, path: str | None = None) -> None:
-        self.program = program_of(program_text)
-        self.session = Session(self.program, path)
+    def __init__(self, program_text: str, path: str | None = None, forms: Forms | None = None) -> None:
+        self.program, self.forms = program_of(program_text), forms or {}
+        self.session = Session(self.program, path, forms=self.forms)
         self.lines: list[str] = []
         self.undone: list[str] = []
         self.first = 0
@@ -47,9 +53,23 @@ class RunKeeper:
     def entry(self, side: str, edit: Any) -> Accepted:
         """Sends an edit, and returns its answer."""
         answer = self.session.entry(side, edit)
+        self._took(side, edit)
+        return answer
+
+    @property
+    def files(self) -> Files:
+        """The users' files of both sides."""
+        return self.session.files
+
+    def patch(self, side: str, patch: Any, drop_private: bool = False) -> Patched:
+        """Sends a JSON Patch of the file of a side, and returns what came of it, as Patched."""
+        done = self.session.files.patch(side, patch, drop_private)
+        self._took(side, done.word)
+        return done
+
+    def _took(self, side, edit):
         self.lines.append(write_json({"side": side, "edit": edit}))
         self.undone = []
-        return answer
 
     @property
     def can_undo(self) -> bool:
@@ -58,7 +78,7 @@ class RunKeeper:
 
     def undo(self) -> tuple[str, Any]:
         """Goes back to the state before the last entry, and returns its side and its edit. Another run takes the entries before it again."""
-        earlier = Session(self.program, self.session.path)
+        earlier = Session(self.program, self.session.path, forms=self.forms)
         try:
             for line in self.lines[:-1]:
                 if isinstance(earlier.line(line), Refused):
@@ -66,7 +86,7 @@ class RunKeeper:
         except BaseException:
             earlier.stop()
             raise
-        self.session.process.stop()
+        self.session.stop()
         self.session, last = earlier, self.lines.pop()
         self.undone.append(last)
         entry = read_json(last)
@@ -105,7 +125,7 @@ class RunKeeper:
 
     def close(self) -> None:
         """Ends the run."""
-        self.session.process.stop()
+        self.session.stop()
 
 
 def state_after(program: str, lines: Iterable[str], path: str) -> dict[str, Any]:
@@ -122,8 +142,8 @@ class StoreKeeper:
 
     is_store, can_undo, undone = True, True, ()
 
-    def __init__(self, folder: str, path: str | None = None) -> None:
-        self.client = Store.open(folder, path)
+    def __init__(self, folder: str, path: str | None = None, forms: Forms | None = None) -> None:
+        self.client, self.forms = Store.open(folder, path, forms=forms), forms or {}
         self.program = stored_program(self.client.store.file)
 
     @property
@@ -139,6 +159,15 @@ class StoreKeeper:
     def entry(self, side: str, edit: Any) -> Accepted:
         """Sends an edit, and returns its answer. It is on the disk then."""
         return self.client.entry(side, edit)
+
+    @property
+    def files(self) -> Files:
+        """The users' files of both sides."""
+        return self.client.files
+
+    def patch(self, side: str, patch: Any, drop_private: bool = False) -> Patched:
+        """Sends a JSON Patch of the file of a side, and returns what came of it, as Patched. It is on the disk then."""
+        return self.client.files.patch(side, patch, drop_private)
 
     def undo(self) -> dict[str, Any]:
         """Takes the last change back, and returns the edits that did so, by their sides."""

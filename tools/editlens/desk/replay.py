@@ -70,7 +70,7 @@ class Replay:
             pass
         return said
 
-    def state(self, step: int = 0, _known: Any = None) -> dict[str, Any]:
+    def state(self, step: int = 0, _known: Any = None, _view: Any = None) -> dict[str, Any]:
         """Everything that a window draws at a step."""
         step = max(0, min(step, len(self.lines)))
         done, documents, changes = self.steps[step]
@@ -89,6 +89,7 @@ class Replay:
             "history": [],
             "notices": [],
             "fault": None,
+            "files": False,
             "undo": {"can": False, "why": ""},
         }
 
@@ -102,6 +103,9 @@ class Replay:
                 tree = state_after(self.program, self.lines[:step], self.path)["complement"]
                 self.complements[step] = {"version": step, "tree": tree, "text": write_json(tree), "sentence": remembered(self.lens, tree)}
             return self.complements[step]
+
+    def file(self, _side: str) -> None:
+        """A replay shows documents alone."""
 
     def check(self, program_text: str) -> dict[str, Any]:
         """What the program says of another lens program."""

@@ -22,6 +22,8 @@ from ..json_text import NotJson, read_json
 
 ADDRESS = "127.0.0.1"
 NAMES = (ADDRESS, "localhost")
+SIDES = ("left", "right")
+CALLS = ("edit", "patch", "undo", "redo", "load")
 MOST_BODY = 1_200_000
 MOST_STREAMS = 64
 MOST_CONNECTIONS = 256
@@ -155,8 +157,10 @@ class _Handler(BaseHTTPRequestHandler):
     def _get(self, path):
         desk, name = self.server.desk, path or "desk.html"
         if path == "state":
-            step, *known = (self._number(it) for it in ("step", "session", "version", "complement"))
-            self._send_json(desk.state(step or 0, known))
+            step, view, *known = (self._number(it) for it in ("step", "view", "session", "version", "complement"))
+            self._send_json(desk.state(step or 0, known, view))
+        elif path == "file":
+            self._send_file(parse_qs(urlsplit(self.path).query).get("side", [""])[0])
         elif path == "events":
             self._stream()
         elif name in self.server.files:
@@ -177,7 +181,7 @@ class _Handler(BaseHTTPRequestHandler):
         if path == "check":
             self._send_json(self._judged(_member(body, "program", str)))
             return
-        if path not in ("edit", "undo", "redo", "load") or not desk.can_edit:
+        if path not in CALLS or not desk.can_edit or path == "patch" and not hasattr(desk, "patch"):
             raise BadRequest(404, "there is no such call")
         base = _member(body, "base", int)
         if path in ("undo", "redo"):
@@ -185,11 +189,27 @@ class _Handler(BaseHTTPRequestHandler):
         elif path == "load":
             said = desk.load(base, _member(body, "program", str))
         else:
-            side = _member(body, "side", str)
-            if side not in ("left", "right") or "edit" not in body:
-                raise BadRequest(400, 'an edit wants "side", "left" or "right", and "edit"')
-            said = desk.edit(base, side, body["edit"])
+            said = self._edited(path, base, body)
         self._send_json(said)
+
+    def _edited(self, path, base, body):
+        """What comes of an edit of a document, or of a patch of a file."""
+        side = _member(body, "side", str)
+        if side not in SIDES or path == "edit" and "edit" not in body:
+            raise BadRequest(400, 'an edit wants "side", "left" or "right", and "edit"')
+        if path == "patch":
+            return self.server.desk.patch(base, side, _member(body, "patch", str), _member(body, "drop", bool))
+        name = self.server.desk.place(side, body.get("view"))
+        if name is None:
+            raise BadRequest(400, 'an edit of a view wants "view", the number of one')
+        return self.server.desk.edit(base, name, body["edit"])
+
+    def _send_file(self, side):
+        """The user's file of a side, where the desk knows a form file."""
+        found = self.server.desk.file(side) if side in SIDES else None
+        if found is None:
+            raise BadRequest(404, "there is no file of this side")
+        self._send_json(found)
 
     def _judged(self, text):
         try:

@@ -17,11 +17,15 @@ from .to_patch import to_patch
 
 @dataclass(frozen=True)
 class Patched:
-    """An accepted patch: the program's answer, the patch of the other side's file, and the patch as it was sent, each place by its position."""
+    """An accepted patch: the program's answer, the patch of the other side's file, and the patch as it was sent, each place by its position.
+
+    `word` is the edit of the document that was made of it.
+    """
 
     answer: Accepted
     patch: list
     sent: list
+    word: list
 
 
 @dataclass(frozen=True)
@@ -70,7 +74,7 @@ class Files:
                 self._try(side, made, drop_private)
             answer = self.session.entry(side, made.word)
             other = OTHER[side]
-            return Patched(answer, self._patch(other, before[other], answer.word), made.patch)
+            return Patched(answer, self._patch(other, before[other], answer.word), made.patch, made.word)
 
     def group(self, *patches: tuple[str, Any], drop_private: bool = False) -> PatchedGroup:
         """Sends patches, each a side and a JSON Patch, that are accepted together or not at all. Returns what comes of it, as PatchedGroup.

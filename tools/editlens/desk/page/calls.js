@@ -12,12 +12,16 @@ async function answered(request) {
   }
 }
 
-/** What a window draws: in a replay at a step, else what is new where a state is known already. */
-export function stateAt(step, known) {
+/** What a window draws: in a replay at a step, of a hub with a view, else what is new where a state of that view is known already. */
+export function stateAt(step, known, view = null) {
   if (step !== null) return answered(fetch(`state?step=${step}`));
-  if (!known) return answered(fetch("state"));
-  return answered(fetch(`state?session=${known.session}&version=${known.version}&complement=${known.complement?.version ?? ""}`));
+  const shown = view === null ? "" : `&view=${view}`;
+  if (!known || view !== null && known.hub?.view !== view) return answered(fetch(`state?${shown}`));
+  return answered(fetch(`state?session=${known.session}&version=${known.version}&complement=${known.complement?.version ?? ""}${shown}`));
 }
+
+/** The user's file of a side, with its version. */
+export const fileOf = (side) => answered(fetch(`file?side=${side}`));
 
 /** A call with a body, whose numbers may be whole numbers of 64 bits. */
 export const call = (name, body) =>

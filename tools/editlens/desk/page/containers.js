@@ -3,36 +3,15 @@
 import { element, signButton } from "./elements.js";
 import { drawValue, inside, isCompact, keyOf, sharing, typedInto } from "./documents.js";
 import { carryFolds, filtered, foldAllButton, foldButton, hasText, isFolded, titleOf } from "./folding.js";
+import { endButtons, fillList, turnTo } from "./long_lists.js";
 import { liftNode, nestNode, nodesOf, pointer, removeItem, removeNode } from "./words.js";
 
-/** So many contents are drawn at once. */
-const MOST = 50;
-
-/** The contents that are drawn now, as a first and a last number, with buttons for the others. */
-function pageOf(count, place, view) {
-  const name = pointer(place.path);
-  const last = Math.max(0, Math.floor((count - 1) / MOST));
-  const page = Math.min(view.pages.get(name) ?? 0, last);
-  const [from, to] = [page * MOST, Math.min(count, (page + 1) * MOST)];
-  if (last === 0) return { from, to, buttons: null };
-  const go = (number) => () => { view.pages.set(name, number); view.redraw(); };
-  const button = (words, role, number, isOff) =>
-    element("button", { type: "button", "data-key": keyOf(place, role), disabled: isOff, onclick: go(number) }, words);
-  const said = element("span", {}, `${(from).toLocaleString("en")} to ${(to - 1).toLocaleString("en")} of ${count.toLocaleString("en")}`);
-  const buttons = element("div", { class: "pages", role: "group", "aria-label": `${place.label}: which part is shown` },
-    button("First", "page-first", 0, page === 0), button("Earlier", "page-back", page - 1, page === 0), said,
-    button("Later", "page-on", page + 1, page === last), button("Last", "page-last", last, page === last));
-  return { from, to, buttons };
-}
-
-/** Shows the part of a container in which a content is. */
-function turnTo(number, place, view) {
-  view.pages.set(pointer(place.path), Math.floor(number / MOST));
-}
+/** So many contents are looked at for what the button that folds all of them does. */
+const LOOKED_AT = 50;
 
 /** Lets a content that is added be seen: its part of the container, unfolded, whatever the filter was. */
 function show(number, path, place, view) {
-  if (number !== null) turnTo(number, place, view);
+  if (number !== null) turnTo(number, pointer(place.path), view);
   view.folds.set(pointer([...place.path, ...path]), false);
   view.endFilter();
 }
@@ -42,11 +21,11 @@ function counted(shown, count, one, many) {
   return element("span", { class: "count" }, shown === count ? said : `${shown.toLocaleString("en")} of ${said}`);
 }
 
-/** The tools at the head of a container: how much it holds, and a button that folds all contents of several lines. */
-function headOf(contents, count, place, view, [one, many], tools) {
-  tools.append(counted(contents.length, count, one, many));
+/** The tools at the head of a container: how much it holds, a button to its end, and one that folds all contents of several lines. */
+function headOf(contents, count, place, view, [one, many], tools, toEnd) {
+  tools.append(counted(contents.length, count, one, many), ...(toEnd ? [toEnd] : []));
   const wide = contents.filter(({ type, value }) => !isCompact(type, value));
-  const names = wide.slice(0, MOST).map(({ path }) => pointer([...place.path, ...path]));
+  const names = wide.slice(0, LOOKED_AT).map(({ path }) => pointer([...place.path, ...path]));
   const list = pointer(place.path);
   if (wide.length > 1) tools.append(foldAllButton(list, place.label, names, contents.length, keyOf(place, "fold-all"), view));
 }
@@ -81,19 +60,20 @@ function handleOf(view, words, place, start) {
 export function drawList(type, value, place, view, tools) {
   const count = value.length;
   const shown = filtered(value, place, view, (it, text) => hasText(type.inner, it, text));
-  const { from, to, buttons } = pageOf(shown.length, place, view);
+  const { toEnd, toStart } = endButtons(shown.length, place, pointer(place.path), keyOf, view);
   const add = () => { show(count, [count], place, view); view.send(place, [{ ins: 1 }], { isFree: true, into: pointer([...place.path, count]) }); };
-  headOf(shown.map((it) => ({ type: type.inner, value: value[it], path: [it] })), count, place, view, ["item", "items"], tools);
+  headOf(shown.map((it) => ({ type: type.inner, value: value[it], path: [it] })), count, place, view, ["item", "items"], tools, toEnd);
   if (view.canEdit) tools.append(addButton(`${place.label}: add an item`, keyOf(place, "add"), add));
-  const entries = shown.slice(from, to).map((it) => drawItem(type.inner, value[it], it, { count, beside: shown.length }, place, view));
-  const list = element("ol", { class: "entries", "data-list": pointer(place.path) }, ...entries);
-  return element("div", { class: "list" }, tools.parentNode ? null : tools, list, buttons);
+  const list = element("ol", { class: "entries", "data-list": pointer(place.path) });
+  const draw = (at) => drawItem(type.inner, value[shown[at]], shown[at], { count, beside: shown.length }, place, view);
+  fillList(list, shown.length, draw, pointer(place.path), view);
+  return element("div", { class: "list" }, tools.parentNode ? null : tools, list, toStart);
 }
 
 function drawItem(type, value, number, { count, beside }, place, view) {
   const within = inside(place, ["mod", number], [number], `item ${number}`);
   const move = (to, role) => {
-    turnTo(to, place, view);
+    turnTo(to, pointer(place.path), view);
     carryFolds(view.folds, pointer(place.path), number, to);
     view.send(place, [{ move: [number, to] }], { key: keyOf({ path: [...place.path, to] }, role) });
   };
@@ -119,12 +99,12 @@ function drawItem(type, value, number, { count, beside }, place, view) {
 export function drawKeyed(type, value, place, view, tools) {
   const has = ([key, inner], text) => key.toLowerCase().includes(text) || hasText(type.inner, inner, text);
   const shown = filtered(value, place, view, has).map((it) => value[it]);
-  const { from, to, buttons } = pageOf(shown.length, place, view);
-  headOf(shown.map(([key, it]) => ({ type: type.inner, value: it, path: [key] })), value.length, place, view, ["key", "keys"], tools);
-  const entries = shown.slice(from, to).map(([key, inner]) => drawKey(type.inner, key, inner, shown.length, place, view));
-  const list = element("ol", { class: "entries keyed" }, ...entries);
+  const { toEnd, toStart } = endButtons(shown.length, place, pointer(place.path), keyOf, view);
+  headOf(shown.map(([key, it]) => ({ type: type.inner, value: it, path: [key] })), value.length, place, view, ["key", "keys"], tools, toEnd);
+  const list = element("ol", { class: "entries keyed" });
+  fillList(list, shown.length, (at) => drawKey(type.inner, ...shown[at], shown.length, place, view), pointer(place.path), view);
   const added = view.canEdit ? drawNewKey(place, view) : null;
-  return element("div", { class: "list" }, tools.parentNode ? null : tools, list, buttons, added);
+  return element("div", { class: "list" }, tools.parentNode ? null : tools, list, toStart, added);
 }
 
 function drawKey(type, key, value, beside, place, view) {
@@ -158,12 +138,13 @@ export function drawTree(type, value, place, view, tools) {
   const byPath = new Map(nodes.map((it) => [it.path.join("."), it]));
   const numbers = filtered(value, place, view, ([, inner], text) => hasText(type.inner, inner, text));
   const shown = view.filter ? numbers.map((it) => nodes[it]) : unfolded(nodes, place, view);
-  const { from, to, buttons } = pageOf(shown.length, place, view);
+  const { toEnd, toStart } = endButtons(shown.length, place, pointer(place.path), keyOf, view);
   const contents = shown.map((it) => ({ type: type.inner, value: value[it.number][1], path: ["items", it.number] }));
-  headOf(contents, nodes.length, place, view, ["node", "nodes"], tools);
-  const entries = shown.slice(from, to).map((it) => drawNode(type.inner, value[it.number][1], it, byPath, shown.length, place, view));
-  const list = element("ol", { class: "entries tree", "data-list": pointer(place.path) }, ...entries);
-  return element("div", { class: "list" }, tools.parentNode ? null : tools, list, buttons);
+  headOf(contents, nodes.length, place, view, ["node", "nodes"], tools, toEnd);
+  const list = element("ol", { class: "entries tree", "data-list": pointer(place.path) });
+  const draw = (at) => drawNode(type.inner, value[shown[at].number][1], shown[at], byPath, shown.length, place, view);
+  fillList(list, shown.length, draw, pointer(place.path), view);
+  return element("div", { class: "list" }, tools.parentNode ? null : tools, list, toStart);
 }
 
 const branchOf = (node, place) => `${pointer([...place.path, "items", node.number])}|branch`;

@@ -4,6 +4,8 @@ import { call, follow, stateAt } from "./calls.js";
 import { drawDocument } from "./documents.js";
 import { startDrag } from "./dragging.js";
 import { byId, element } from "./elements.js";
+import { FileView } from "./file.js";
+import { callSide, namesOf } from "./names.js";
 import { completed } from "./news.js";
 import { Steps, drawComplement, drawHistory, drawLast, drawNotices, refusalLines } from "./panels.js";
 import { pathOf, placeAt, typeAt } from "./places.js";
@@ -12,6 +14,7 @@ import { ProgramEditor } from "./program.js";
 import { partners } from "./ties.js";
 import { Turns } from "./turns.js";
 import { Versions } from "./versions.js";
+import { Views } from "./views.js";
 import { Verbatim, editAt, pathWithout, pointer, writeJson } from "./words.js";
 
 const SIDES = ["left", "right"];
@@ -19,12 +22,25 @@ const OTHER = { left: "right", right: "left" };
 const CONTAINER = /"kind":"(list|keyed|tree)"/;
 const MARKS = { set: "changed", new: "new", moved: "moved" };
 
+/** Marks the element of a place, once. */
+function markAt(found, words) {
+  if (found.matches(".folded") && found.querySelector(".mark")) return;
+  const around = found.matches(".row, .entry") ? found : found.closest(".row, .entry");
+  const head = found.matches(".row.compact") ? null : around?.querySelector(":scope > .row-head");
+  const box = head ?? (found.matches(".row, .entry") ? found : null);
+  if (!box || box.querySelector(":scope > .mark")) return;
+  const mark = element("span", { class: "mark" }, words);
+  if (box.matches(".entry")) box.insertBefore(mark, box.querySelector(":scope > .tools, :scope.wide > .control"));
+  else box.append(mark);
+}
+
 /** One side of the page: it draws its document, and finds the places in it. */
 class Side {
   constructor(name, desk) {
     this.side = name;
     this.desk = desk;
-    this.pages = new Map();
+    this.starts = new Map();
+    this.longLists = new Map();
     this.folds = new Map();
     this.drawn = new Map();
     this.filter = "";
@@ -32,19 +48,28 @@ class Side {
     this.root = byId(name).querySelector(".document");
     this.root.addEventListener("pointerover", (event) => desk.pointedAt(this, event.target));
     this.root.addEventListener("pointerleave", () => desk.pointedAt(this, null));
+    this.root.addEventListener("scroll", () => this.scrolled());
     this.root.addEventListener("focusin", (event) => desk.pointedAt(this, event.target));
     const byHand = byId(name).querySelector(".by-hand");
     byHand.querySelector("button").addEventListener("click", () => desk.sendText(this, byHand.querySelector("textarea").value));
     byHand.hidden = true;
     this.filterInput = byId(name).querySelector(".filter");
     this.filterInput.addEventListener("input", () => this.filterBy(this.filterInput.value));
+    this.file = new FileView(this, desk);
   }
 
   /** Shows what has a text inside alone. */
   filterBy(text) {
     this.filter = text.trim().toLowerCase();
-    this.pages.clear();
+    this.starts.clear();
     this.redraw();
+  }
+
+  /** Another document is shown from now on: no place of the one before is known. */
+  forgetPlaces() {
+    this.starts.clear();
+    this.folds.clear();
+    this.endFilter();
   }
 
   endFilter() {
@@ -54,6 +79,9 @@ class Side {
   get version() { return this.desk.state.version; }
   get canEdit() { return this.desk.state.mode !== "replay"; }
   get otherSide() { return OTHER[this.side]; }
+  get called() { return namesOf(this.desk.state)[this.side]; }
+  get otherCalled() { return namesOf(this.desk.state)[this.otherSide]; }
+  get hasMore() { return (this.desk.state.hub?.views.length ?? 0) > 1; }
 
   /** What belongs to a path in the other document: types and values. What needs a complement that is still to come is left out. */
   tiedTo(path) {
@@ -86,12 +114,33 @@ class Side {
     this.isDrawing = true;
     this.root.replaceChildren(drawDocument(type, document, this));
     this.isDrawing = false;
-    this.drawn = new Map([...this.root.querySelectorAll("[data-place]")].map((it) => [it.dataset.place, it]));
-    this.filterInput.hidden = !CONTAINER.test(JSON.stringify(type));
-    byId(this.side).querySelector(".by-hand").hidden = !this.canEdit;
+    for (const it of this.longLists.values()) it.measure();
+    this.findPlaces();
+    this.hasFilter = CONTAINER.test(JSON.stringify(type));
+    byId(this.side).classList.toggle("fixed", !this.canEdit);
+    this.file.draw(this.desk.state);
     this.markChanges(changes);
     this.showRefusal();
     this.hold(held);
+  }
+
+  findPlaces() {
+    this.drawn = new Map([...this.root.querySelectorAll("[data-place]")].map((it) => [it.dataset.place, it]));
+  }
+
+  /** Draws what comes into sight of a long list, once before the next picture. */
+  scrolled() {
+    this.scrolling ??= requestAnimationFrame(() => {
+      this.scrolling = undefined;
+      if ([...this.longLists.values()].filter((it) => it.follow(this.root)).length) this.drewMore();
+    });
+  }
+
+  /** More of a long list is drawn than before. */
+  drewMore() {
+    this.findPlaces();
+    this.markChanges(this.desk.state.sides[this.side].changes);
+    if (this.refusal && !byId(this.side).querySelector(".refused.here")) this.showRefusal();
   }
 
   /** The element of a place, or of the nearest one around it that is drawn. */
@@ -114,13 +163,7 @@ class Side {
   markChanges(changes) {
     for (const [place, sort] of changes) {
       const found = this.shown(place);
-      if (found?.matches(".folded") && found.querySelector(".mark")) continue;
-      const mark = element("span", { class: "mark" }, MARKS[sort]);
-      const head = found?.querySelector(":scope > .row-head");
-      if (found?.matches(".row.compact")) found.append(mark);
-      else if (head) head.append(mark);
-      else if (found?.matches(".entry")) found.insertBefore(mark, found.querySelector(":scope > .tools, :scope.wide > .control"));
-      else found?.closest(".row, .entry")?.querySelector(":scope > .row-head")?.append(mark);
+      if (found) markAt(found, MARKS[sort]);
     }
   }
 
@@ -130,7 +173,9 @@ class Side {
     if (!this.refusal) return;
     const lines = refusalLines(this.refusal);
     const close = element("button", { type: "button", onclick: () => { this.refusal = null; this.redraw(); } }, "Close");
-    const said = element("div", { class: "refused here" }, ...lines, close);
+    const { again } = this.refusal;
+    const anyway = again ? element("button", { type: "button", onclick: again }, "Do it all the same") : null;
+    const said = element("div", { class: "refused here" }, ...lines, ...(anyway ? [anyway] : []), close);
     const { place } = this.refusal;
     if (place === null || place === undefined) box.append(said);
     else {
@@ -182,12 +227,14 @@ class Page {
   constructor() {
     this.state = null;
     this.step = null;
+    this.view = null;
     this.refusal = null;
     this.versions = new Versions();
     this.turns = new Turns(() => this.showUndo());
     this.drawn = Promise.resolve();
     this.sides = Object.fromEntries(SIDES.map((it) => [it, new Side(it, this)]));
     this.steps = new Steps((step) => this.go(step));
+    this.views = new Views((view) => this.chooseView(view));
     this.program = new ProgramEditor((text) => call("check", { program: text }), (text) => this.load(text));
     for (const name of ["undo", "redo"]) byId(name).addEventListener("click", () => this.goBack(name));
     document.addEventListener("keydown", (event) => this.pressed(event));
@@ -232,7 +279,8 @@ class Page {
   }
 
   async refreshNow(focus) {
-    const said = await stateAt(this.step, this.state);
+    const said = await stateAt(this.step, this.state, this.view);
+    this.answeredAt = performance.now();
     if (said.version === undefined || said.sentence) this.say(said);
     else this.draw(completed(this.state, said), focus);
   }
@@ -242,13 +290,27 @@ class Page {
     return this.refresh();
   }
 
+  /** Shows another view of a hub, behind what is on its way. Where some of that is refused, the view stays, and with it the refusal. */
+  chooseView(view) {
+    const { refusal } = this;
+    return this.turns.take(`Opening view ${view}`, null, async () => {
+      if (this.refusal !== refusal) return;
+      this.forget();
+      this.view = view;
+      this.sides.right.forgetPlaces();
+      await this.refresh();
+    });
+  }
+
   draw(state, focus) {
-    const isSame = this.state !== null && this.state.version === state.version;
+    const isSame = this.state !== null && this.state.version === state.version && this.state.hub?.view === state.hub?.view;
     if (this.state && state.version < this.state.version && state.mode !== "replay") return;
     const isNewer = !isSame && this.state !== null;
     if (!isSame) this.versions.drawn(this.state, state);
     this.state = state;
     byId("title").textContent = state.title;
+    Object.entries(namesOf(state)).forEach(([side, name]) => callSide(side, name));
+    this.views.draw(state);
     this.showUndo();
     if (state.fault) this.say({ cause: "failed", sentence: state.fault });
     if (isNewer) this.forget();
@@ -258,8 +320,7 @@ class Page {
     this.drawPanels();
     if (focus) focus.side.focus(focus);
     this.pointedAt(this.pointedSide, this.pointedElement);
-    // A script that measures the page reads when a version was painted.
-    if (!isSame) requestAnimationFrame(() => setTimeout(() => performance.mark("painted")));
+    if (!isSame) measured(this.answeredAt, state.version);
   }
 
   drawPanels() {
@@ -268,7 +329,7 @@ class Page {
     drawHistory(this.state);
     drawNotices(this.state);
     this.program.show(this.state.program);
-    byId("program").classList.toggle("fixed", this.state.mode !== "session");
+    byId("program").classList.toggle("fixed", this.state.mode !== "session" || Boolean(this.state.hub));
   }
 
   forget() {
@@ -312,13 +373,26 @@ class Page {
     const from = document.activeElement?.dataset.key;
     const isPress = !focus.isFree && focus.base === undefined && focus.place !== undefined;
     const name = isPress ? `${side.side} ${focus.key ?? writeJson(edit)}` : null;
-    return this.turns.take("Sending the edit", name, () => this.sendNow(side, edit, base, { from, ...focus }));
+    const view = this.state.hub?.view;
+    return this.turns.take("Sending the edit", name, () => this.sendNow(side, edit, base, { from, view, ...focus }));
   }
 
   /** Sends an edit. A refusal is shown at its place, and the document is drawn as it is. */
   async sendNow(side, edit, base, focus) {
     const now = focus.place === undefined ? base : this.rebased(side, base, focus.place, focus.isFree);
-    await this.answered(side, await call("edit", { base: new Verbatim(String(now)), side: side.side, edit }), focus);
+    const body = { base: new Verbatim(String(now)), side: side.side, edit, ...(focus.view === undefined ? {} : { view: focus.view }) };
+    await this.answered(side, await call("edit", body), focus);
+  }
+
+  /** Sends a JSON Patch of the file of a side. Where the other side would lose what it alone has, the refusal has a button that does it. */
+  sendPatch(side, text, drop, base) {
+    return this.turns.take("Sending the patch", `${side.side} patch`, async () => {
+      const body = { base: new Verbatim(String(base)), side: side.side, patch: text, drop };
+      const said = await call("patch", body);
+      const again = said.cause === "private-loss" ? () => side.file.send(text, true) : undefined;
+      await this.answered(side, { ...said, again });
+      return said;
+    });
   }
 
   async answered(side, said, focus = {}) {
@@ -390,6 +464,14 @@ class Page {
     const found = others.map((it) => this.sides[side.otherSide].shown(it)).filter(Boolean);
     if (found.length) [place, ...found].forEach((it) => it.closest(".entry, .row")?.classList.add("tied"));
   }
+}
+
+/** Notes when a version was painted, and how long that took from its answer on, for a script that measures the page. */
+function measured(start, version) {
+  requestAnimationFrame(() => setTimeout(() => {
+    performance.mark("painted");
+    performance.measure("drawing", { start, end: performance.now(), detail: { version } });
+  }));
 }
 
 window.page = new Page();

@@ -14,7 +14,7 @@ const LONG = 60;
 
 /** The drawing of a document, for a view: its side, its version, whether it can be edited, and where edits go. */
 export function drawDocument(type, value, view) {
-  const place = { steps: [], path: [], label: view.side, isOwn: false };
+  const place = { steps: [], path: [], label: view.called, isOwn: false };
   if (type.kind === "record") return element("div", { class: "whole", "data-place": "" }, drawValue(type, value, place, view));
   return drawRow("the document", type, value, place, view);
 }
@@ -109,7 +109,7 @@ function changeKind(menu, inner, [tag, content], place, view) {
   const key = keyOf(place, "tag");
   const change = () => view.send(place, [{ switch: [tag, to, []] }], { key });
   const others = view.tiedTo([...place.path, tag]);
-  const loss = lossOf(tag, inner, content, others, view.otherSide);
+  const loss = lossOf(tag, inner, content, others, view.otherCalled, view.hasMore);
   const box = menu.closest(".alternatives");
   box.querySelector(":scope > .warning")?.remove();
   if (!loss) {

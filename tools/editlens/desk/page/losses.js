@@ -1,6 +1,7 @@
 // What goes with a kind that is changed: its content, and what the other document alone keeps for it.
 
 import { element } from "./elements.js";
+import { the } from "./names.js";
 import { quoted } from "./plain.js";
 
 const MOST = 3;
@@ -37,13 +38,17 @@ function listed(found) {
   return `${all.slice(0, MOST).join(", ")} and ${(all.length - MOST).toLocaleString("en")} more`;
 }
 
-/** What goes with a content, in a sentence, or an empty one where nothing does. `others` are the places of the other document, called `name`. */
-export function lossOf(tag, type, value, others, name) {
+/**
+ * What goes with a content, in a sentence, or an empty one where nothing does. `others` are the places of the other document, called `name`.
+ * `hasMore` says that there are documents that the page does not show.
+ */
+export function lossOf(tag, type, value, others, name, hasMore) {
   const here = listed(kept(type, value, () => true));
   const there = listed(others.flatMap((it) => [...kept(it.type, it.value, (inner) => !inner.shared)]));
   const said = [];
   if (here) said.push(`${here} goes with the kind ${tag}.`);
-  if (there) said.push(`${here ? "So does" : "With the kind goes"} what the ${name} document alone keeps: ${there}.`);
+  if (there) said.push(`${here ? "So does" : "With the kind goes"} what ${the(name)} alone keeps: ${there}.`);
+  if (said.length && hasMore) said.push("And so does what other views keep for it.");
   return said.join(" ");
 }
 

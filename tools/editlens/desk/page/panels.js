@@ -1,6 +1,7 @@
 // The panels beside both documents: the last edit and its translation, the complement, the history, and the steps of a replay.
 
 import { byId, element } from "./elements.js";
+import { the } from "./names.js";
 
 const OTHER = { left: "right", right: "left" };
 const LONG = 1500;
@@ -13,17 +14,20 @@ function wordLine(title, word) {
   return element("div", { class: "word" }, element("span", { class: "word-title" }, title), element("code", { tabindex: 0 }, cut(word)));
 }
 
-function translated(entry) {
-  const title = `translated for the ${entry.other} document`;
-  return wordLine(entry.word === "[]" ? `${title}: nothing to do` : title, entry.word);
+/** The words of the other documents: of a pair one, of a hub one for each document but the one that was edited. */
+const othersOf = (entry) => entry.others ?? [[entry.other, entry.word]];
+
+function translated(name, word) {
+  const title = `translated for ${the(name)}`;
+  return wordLine(word === "[]" ? `${title}: nothing to do` : title, word);
 }
 
 function entryLines(entry) {
   const said = element("p", { class: "said" }, entry.sentences.join("; ") || "nothing changed");
   if (entry.taken) return [element("p", { class: "said" }, `Taken back: ${entry.sentences.join("; ")}`)];
   const words = entry.undo
-    ? [wordLine("left document", entry.edit), wordLine("right document", entry.word)]
-    : [wordLine(`sent to the ${entry.side} document`, entry.edit), translated(entry)];
+    ? [[entry.side, entry.edit], ...othersOf(entry)].map(([name, word]) => wordLine(the(name).replace(/^the (?!hub)/, ""), word))
+    : [wordLine(`sent to ${the(entry.side)}`, entry.edit), ...othersOf(entry).map(([name, word]) => translated(name, word))];
   return [entry.undo ? element("p", { class: "said" }, "The last change was taken back.") : said, ...words];
 }
 
@@ -48,7 +52,7 @@ export function drawLast(state, refusal) {
   const refused = state.mode === "replay" ? state.done.refused : refusal;
   const lines = [];
   if (refused) {
-    if (refused.edit) lines.push(wordLine(`sent to the ${refused.side ?? ""} document`, refused.edit));
+    if (refused.edit) lines.push(wordLine(refused.side ? `sent to ${the(refused.side)}` : "sent", refused.edit));
     lines.push(element("div", { class: "refused" }, ...refusalLines(refused)), element("p", { class: "said" }, "Nothing has changed."));
   } else {
     lines.push(...entries.flatMap(entryLines));
@@ -70,7 +74,7 @@ export function drawHistory(state) {
   byId("history").hidden = state.mode === "replay";
   const back = (it) => (it.taken ? `taken back: ${it.sentences.join("; ")}` : "the last change taken back");
   const said = (it) => (it.undo ? back(it) : it.sentences.join("; "));
-  const way = (it) => (it.undo ? null : element("span", { class: "way" }, ` ${it.side} → ${OTHER[it.side]}`));
+  const way = (it) => (it.undo || !OTHER[it.side] ? null : element("span", { class: "way" }, ` ${it.side} → ${OTHER[it.side]}`));
   const items = [...state.history].reverse().map((it) =>
     element("li", { value: it.version }, element("span", { class: "said" }, said(it)), way(it)));
   byId("history-list").replaceChildren(...(items.length ? items : [element("li", { class: "none" }, "No change since the desk was opened.")]));
