@@ -173,7 +173,7 @@ def test_a_slow_stream_is_cut(room: Room) -> None:
             time.sleep(0.2)
     assert cut, "the stream goes on"
     assert worker.memory() < held + (100 << 20), (held, worker.memory())
-    numbers = [event.data["number"] for event, _ in zip(room.client(0).pair(name, "right").changes(3), range(58))]
+    numbers = [event.data["number"] for _, event in zip(range(58), room.client(0).pair(name, "right").changes(3))]
     assert numbers == list(range(4, 62)), numbers
 
 
