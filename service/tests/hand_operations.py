@@ -25,8 +25,8 @@ OPERATIONS = os.path.join(SERVICE, "operations")
 ADD = [{"at": ["hours", [{"add": 1}]]}]
 MAIN = """daemon off; worker_processes 1; error_log {folder}/error.log; pid {folder}/pid;
 events {{}}
-http {{ access_log off; client_body_temp_path {folder}/b; proxy_temp_path {folder}/p; fastcgi_temp_path {folder}/f; uwsgi_temp_path {folder}/u;
-scgi_temp_path {folder}/s; include {folder}/service.conf; }}
+http {{ access_log off; client_body_temp_path {folder}/b; proxy_temp_path {folder}/p; fastcgi_temp_path {folder}/f;
+uwsgi_temp_path {folder}/u; scgi_temp_path {folder}/s; include {folder}/service.conf; }}
 """
 
 
@@ -76,7 +76,8 @@ def _proxy(ports: "list[int]") -> "Iterator[tuple[str, str]]":
         for file_name, content in (("service.conf", text), ("nginx.conf", MAIN.format(folder=folder))):
             with open(os.path.join(folder, file_name), "w", encoding="utf-8") as file:
                 file.write(content)
-        process = subprocess.Popen([program, "-c", os.path.join(folder, "nginx.conf"), "-p", folder, "-e", os.path.join(folder, "error.log")])
+        words = ["-c", os.path.join(folder, "nginx.conf"), "-p", folder, "-e", os.path.join(folder, "error.log")]
+        process = subprocess.Popen([program, *words])
         try:
             _await_port(port, process)
             yield f"https://localhost:{port}", certificate
@@ -99,7 +100,7 @@ def _await_port(port: int, process: "subprocess.Popen[Any]") -> None:
 
 
 def test_nginx_with_tls(room: Room) -> None:
-    """Requests and streams go through nginx with TLS. What a stream tells is there at once, and when a worker is killed another one answers."""
+    """Requests and streams go through nginx with TLS. A stream has each event at once, and when a worker is killed another one answers."""
     workers, name = room.serve(), room.name()
     direct = room.client(0)
     direct.make(name, PROGRAM)

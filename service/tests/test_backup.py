@@ -37,8 +37,8 @@ def test_a_backup(room: Room) -> None:
 
 
 def test_a_point_in_time(room: Room) -> None:
-    """A pair was removed by mistake, and the database goes back to the moment before: the pair is as it was then, a stream of a client that has
-    seen more is told to read anew, and edits go on."""
+    """A pair was removed by mistake, and the database goes back to the moment before: the pair is as it was then, and edits go on. The stream
+    of a client that has seen more is told to read anew."""
     with tempfile.TemporaryDirectory() as folder:
         archive = os.path.join(folder, "archive")
         os.mkdir(archive)

@@ -156,7 +156,7 @@ def test_a_packed_body(room: Room) -> None:
 
 
 def test_a_slow_stream_is_cut(room: Room) -> None:
-    """A client that takes nothing loses its stream, and the worker holds no more than a little of what it did not take. It catches up by number."""
+    """A client that takes nothing loses its stream, and the worker holds little of what it did not take. It catches up by number."""
     name, left, worker = _ready(room)
     text = "x" * 200_000
     held = worker.memory()

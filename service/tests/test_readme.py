@@ -72,7 +72,8 @@ def _python(address: str) -> str:
     [block] = _blocks("python")
     text = f"token = 'all'\n{block.replace('http://127.0.0.1:8080', address)}    break\n"
     path = os.pathsep.join((os.path.join(SERVICE, "clients", "python"), os.path.join(os.path.dirname(SERVICE), "tools")))
-    ran = subprocess.run([PYTHON, "-c", text], env={**os.environ, "PYTHONPATH": path}, capture_output=True, text=True, timeout=120, check=False)
+    given = {**os.environ, "PYTHONPATH": path}
+    ran = subprocess.run([PYTHON, "-c", text], env=given, capture_output=True, text=True, timeout=120, check=False)
     assert not ran.returncode, ran.stderr
     return ran.stdout
 

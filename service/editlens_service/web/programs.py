@@ -40,8 +40,9 @@ async def check(request: web.Request) -> web.Response:
 async def change(request: web.Request) -> web.Response:
     """Puts the documents of a pair under another lens program, as `tools/store change-lens` does for a store.
 
-    New fields begin with their initial values. `rename` has the new names of fields that are gone, by their places or their names. Where anything
-    of the documents goes, the request is refused with the list, unless `accept-loss` is true. Streams are told to read their documents again.
+    New fields begin with their initial values. `rename` has the new names of fields that are gone, by their places or their names. Where
+    anything of the documents goes, the request is refused with the list, unless `accept-loss` is true. Streams are told to read their
+    documents again.
     """
     it = await about(request, "manage")
     need_type(request, "application/json")
@@ -70,7 +71,8 @@ def _changed(kept: Kept, program: str, accepts: bool, renames: "dict[str, str]")
     fresh.close()
     held = {side: read_json(kept.state.document(side)) for side in SIDES}
     fitted = {side: Fitting(types[side], held[side], renames.items()) for side in SIDES}
-    unused = [f"no field {old} is gone that can be called {renames[old]}" for old in renames if not any(old in it.used for it in fitted.values())]
+    used = {it for one in fitted.values() for it in one.used}
+    unused = [f"no field {old} is gone that can be called {new}" for old, new in renames.items() if old not in used]
     if unused:
         raise Conflict("; ".join(unused), cause="rename")
     for side in SIDES:
