@@ -31,9 +31,12 @@ def find_folder() -> str:
 
 
 class Postgres:
-    """The server. It refuses to be run by root, and is run by the user `postgres` then. Its files are synced as those of any server."""
+    """The server. It refuses to be run by root, and is run by the user `postgres` then. Its files are synced as those of any server.
 
-    def __init__(self, settings: "dict[str, str] | None" = None) -> None:
+    `base` is a backup by `pg_basebackup` from which it begins. `recovery` are settings for that: with them it goes on to a point in time.
+    """
+
+    def __init__(self, settings: "dict[str, str] | None" = None, base: "str | None" = None, recovery: "dict[str, str] | None" = None) -> None:
         self.programs = find_folder()
         self.folder = tempfile.mkdtemp(prefix="editlens-postgres-", dir=os.environ.get("TMPDIR", "/tmp"))
         self.is_root = os.getuid() == 0
@@ -43,7 +46,14 @@ class Postgres:
             shutil.chown(self.folder, USER)
             os.chmod(self.folder, 0o755)
         self.data = os.path.join(self.folder, "data")
-        self._run("initdb", "--pgdata", self.data, "--auth", "trust", "--username", USER, "--encoding", "UTF8", "--locale", "C", "--no-instructions")
+        if base is None:
+            self._run("initdb", "--pgdata", self.data, "--auth", "trust", "--username", USER, "--encoding", "UTF8", "--locale", "C", "--no-instructions")
+        else:
+            os.rename(base, self.data)
+        if recovery:
+            settings = {**(settings or {}), **recovery}
+            with open(os.path.join(self.data, "recovery.signal"), "w", encoding="ascii"):
+                pass
         self.settings = {"listen_addresses": "", "unix_socket_directories": self.folder, "max_connections": "200", **(settings or {})}
         self.start()
 

@@ -124,7 +124,7 @@ def test_the_client_in_node(room: Room) -> None:
 
 
 def test_pending_edits_in_node(room: Room) -> None:
-    """Edits that were made while no worker answered are sent in their order when one does: each makes sense behind the one before it alone."""
+    """Edits that were made while no worker answered are sent in their order when one does: each needs the one before it."""
     name, count = room.name(), 8
     room.client(1).make(name, PROGRAM)
     worker = room.serve()[0]

@@ -1,4 +1,4 @@
-"""The example of two browsers, and the files of the operations."""
+"""The example of two browsers."""
 
 from __future__ import annotations
 
@@ -39,22 +39,3 @@ def test_the_example(room: Room) -> None:
         process.wait(180)
         process.stdout.close()  # type: ignore[union-attr]
     assert process.returncode == 0
-
-
-def test_a_backup(room: Room) -> None:
-    """A database that is dumped and restored has each pair as it was, and goes on."""
-    from .fleet import Worker
-
-    name, client = room.name(), room.client()
-    client.make(name, "main {a ~ b: id int, left c: text}\n")
-    for _ in range(25):
-        client.pair(name, "left").edit([{"at": ["a", [{"add": 1}]]}])
-    path = os.path.join(room.postgres.folder, "dump")
-    room.postgres.run("pg_dump", "--format", "custom", "--file", path, "editlens")
-    room.postgres.make("again")
-    room.postgres.run("pg_restore", "--dbname", "again", path)
-    with Worker(room.postgres.dsn.replace("/editlens?", "/again?"), "--without-tokens") as worker:
-        other = Client(worker.address)
-        assert other.pair(name, "right").read() == ({"b": 25}, 25)
-        assert other.pair(name, "right").edit([{"at": ["b", [{"add": 1}]]}]).number == 26
-        assert other.store(name).startswith(client.store(name)[:-1])

@@ -11,6 +11,9 @@ import time
 from collections import Counter
 from typing import Any
 
+from editlens_client import Client, Refusal
+
+from .fleet import Worker
 from .load import PROGRAM
 from .room import Room
 
@@ -153,7 +156,7 @@ def test_a_packed_body(room: Room) -> None:
 
 
 def test_a_slow_stream_is_cut(room: Room) -> None:
-    """A client that takes nothing loses its stream, and the worker holds no more than a little of what it did not take."""
+    """A client that takes nothing loses its stream, and the worker holds little of what it did not take. It catches up by number."""
     name, left, worker = _ready(room)
     text = "x" * 200_000
     held = worker.memory()
@@ -170,6 +173,47 @@ def test_a_slow_stream_is_cut(room: Room) -> None:
             time.sleep(0.2)
     assert cut, "the stream goes on"
     assert worker.memory() < held + (100 << 20), (held, worker.memory())
+    numbers = [event.data["number"] for _, event in zip(range(58), room.client(0).pair(name, "right").changes(3))]
+    assert numbers == list(range(4, 62)), numbers
+
+
+def test_too_many_lines(room: Room) -> None:
+    """A request with more lines than are taken at once is refused, and none of them is stored."""
+    name, left, worker = _ready(room)
+    lines = b"\n".join([b'[{"at":["hours",[{"add":1}]]}]'] * 51)
+    assert asyncio.run(_status(worker.port, _head(name, b"Content-Length: %d" % len(lines)) + lines)) == 413
+    assert left.read() == ({"hours": 5, "plan": []}, 1)
+
+
+def test_too_many_streams(room: Room) -> None:
+    """A worker takes no more streams than its limit, says so, and takes one again when another has ended. Edits go on meanwhile."""
+    name, left, _ = _ready(room)
+    with Worker(room.postgres.dsn, "--without-tokens", "--limit-streams", "3") as worker:
+        streams = [socket.create_connection(("127.0.0.1", worker.port), timeout=60) for _ in range(4)]
+        for number, there in enumerate(streams):
+            there.sendall(b"GET /pairs/%s/left/changes?after=0 HTTP/1.1\r\nHost: x\r\n\r\n" % name.encode())
+            said = there.recv(4096)
+            assert said.startswith(b"HTTP/1.1 503" if number == 3 else b"HTTP/1.1 200"), said
+        assert b"Retry-After" in said and b"too many streams" in said + streams[3].recv(4096), said
+        document = Client(worker.address).pair(name, "left")
+        assert document.edit([{"at": ["hours", [{"add": 1}]]}]).number == 2
+        streams.pop(0).close()
+        deadline = time.monotonic() + 60
+        while (event := _first_event(document)) is None:
+            assert time.monotonic() < deadline, "no stream is taken any more"
+            time.sleep(0.2)
+        assert event.data["number"] == 1
+        for there in streams:
+            there.close()
+
+
+def _first_event(document: Any) -> Any:
+    """The first event of a document. None where no stream is taken."""
+    try:
+        return next(iter(document.changes(0)))
+    except Refusal as why:
+        assert why.status == 503, why
+        return None
 
 
 def _metric(port: int, name: bytes) -> bytes:

@@ -52,13 +52,15 @@ def test_hubs(room: Room) -> None:
     patched = client.hub(name).patch([{"op": "replace", "path": "/b", "value": 9}])
     assert patched.reply["patches"]["1"] == [{"op": "replace", "path": "/q", "value": 9}]
     events = view.changes(0)
-    assert [next(events).data["edit"] for _ in range(3)] == [[{"at": ["p", [{"set": 3}]]}], [{"at": ["q", [{"add": 2}]]}], [{"at": ["q", [{"set": 9}]]}]]
+    wanted = [[{"at": ["p", [{"set": 3}]]}], [{"at": ["q", [{"add": 2}]]}], [{"at": ["q", [{"set": 9}]]}]]
+    assert [next(events).data["edit"] for _ in range(3)] == wanted
     assert raises(Refusal, client.hub(name, 2).read).status == 404
     assert raises(Refusal, client.hub(name, 2).edit, []).problem["cause"] == "no-view"
     store, again = _store(client, name), room.name("hub")
     made = client.ask(Call("PUT", f"/hubs/{again}/store", FILE, store))
     assert made["number"] == 3 and client.hub(again, 1).read() == (view.read()[0], 3)
-    wrong = change("PUT", f"/hubs/{room.name('hub')}", "application/json", write({"programs": ["main id int\n", "main id text\n"]}), None, None)
+    body = write({"programs": ["main id int\n", "main id text\n"]})
+    wrong = change("PUT", f"/hubs/{room.name('hub')}", "application/json", body, None, None)
     assert raises(Refusal, client.ask, wrong).problem["cause"] == "views-differ"
 
 
@@ -80,7 +82,7 @@ LINES = (
 
 
 def test_groups_of_a_hub(room: Room) -> None:
-    """A group is accepted as a whole or not at all, and each line is answered as by `edithub apply`. The store that is exported is the same."""
+    """A group is accepted as a whole or not at all. Each line is answered as by `edithub apply`, and the records are the same."""
     name, client = room.name("hub"), room.client(0)
     client.make_hub(name, PROGRAMS)
     with tempfile.TemporaryDirectory() as folder:
@@ -117,7 +119,7 @@ def _payloads(store: bytes) -> "list[bytes]":
 
 
 def test_undo_of_a_hub(room: Room) -> None:
-    """Changes of a hub are taken back by one change, a group as one. A stream of a view that follows is at the document, and the store is well."""
+    """Changes of a hub are taken back by one change, a group as one. Streams come to the documents, and the store is well."""
     name, client, other = room.name("hub"), room.client(0), room.client(1)
     programs = [
         "main {rows ~ titles: each {name ~ title: id text, left done: bool}, left n: int}\n",

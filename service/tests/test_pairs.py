@@ -330,6 +330,23 @@ def test_another_program(room: Room) -> None:
     assert _verified(client.store(name), left.read()[0], other.pair(name, "right").read()[0]) == "consistent 1\n"
 
 
+def test_another_program_with_other_names(room: Room) -> None:
+    """A field that has another name in the new program keeps its value where the request says so. A name that is not there is refused."""
+    name, client = _made(room, left={"hours": 7, "plan": [{"todo": "Roof"}]}), room.client()
+    program = PROGRAM.replace("left hours", "left time")
+
+    def ask(**more: Any) -> Any:
+        body = write({"program": program, **more})
+        return client.ask(change("POST", f"/pairs/{name}/program", "application/json", body, None, None))
+
+    assert raises(Refusal, ask).problem["cause"] == "loss"
+    why = raises(Refusal, ask, rename={"minutes": "time"})
+    assert why.status == 409 and why.problem["cause"] == "rename", why.problem
+    assert raises(Refusal, ask, rename={"hours": 5}).status == 400
+    assert ask(rename={"hours": "time"})["number"] == 1
+    assert client.pair(name, "left").read() == ({"time": 7, "plan": [{"todo": "Roof"}]}, 1)
+
+
 def test_another_program_under_load(room: Room) -> None:
     """While clients edit by both workers, the program changes: each accepted edit is in the log once, before it or after it."""
     name = _made(room)

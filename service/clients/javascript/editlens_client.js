@@ -7,9 +7,9 @@
 //
 // `follow` keeps a copy by the changes alone, and goes on after a lost connection. The copy has what is stored, and no edit before that.
 //
-// `pending` has the edits that are not answered yet, in their order, and `waits` is called whenever it changes. They have an Idempotency-Key
-// each, and are sent again until they are answered, so each is made once. Those of one pair are sent one after another. `patience` says how long
-// one is sent again where no answer comes; with `Infinity` edits that were made without a network wait for it.
+// `pending` has the edits that are not answered yet, in their order, and `waits` is called whenever it changes. They have an
+// Idempotency-Key each, and are sent again until they are answered, so each is made once. Those of one pair are sent one after another.
+// `patience` says how long one is sent again where no answer comes; with `Infinity` edits that were made without a network wait for it.
 //
 // Whole numbers that JavaScript cannot hold are BigInt.
 

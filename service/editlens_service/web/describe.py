@@ -24,7 +24,7 @@ def _object(**properties: Any) -> "dict[str, Any]":
     return {"type": "object", "properties": properties}
 
 
-PROGRAM = _object(program=TEXT, **{"accept-loss": {"type": "boolean"}})
+PROGRAM = _object(program=TEXT, rename={"type": "object", "additionalProperties": TEXT}, **{"accept-loss": {"type": "boolean"}})
 MAKE_PAIR = _object(program=TEXT, left={}, right={}, forms=OBJECT)
 MAKE_HUB = _object(programs={"type": "array", "items": TEXT}, edits={"type": "array", "items": OBJECT}, forms=OBJECT)
 MADE = _object(name=TEXT, number=NUMBER, disagreements={"type": "array", "items": TEXT})

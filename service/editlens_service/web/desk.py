@@ -8,6 +8,7 @@ from typing import Any
 from aiohttp import web
 
 from editlens.changes import changed_places
+from editlens.desk import drawing
 from editlens.desk.complement import remembered
 from editlens.desk.drawing import drawn_changes, drawn_document, drawn_lens, drawn_types
 from editlens.json_text import read_json, write_json
@@ -22,7 +23,7 @@ from .pairs import etag, said
 from .requests import NAME, About, about
 
 TOP = os.path.dirname(os.path.dirname(os.path.dirname(os.path.abspath(__file__))))
-FOLDERS = (os.path.join(TOP, "page"), os.path.join(TOP, "clients", "javascript"), os.path.join(os.path.dirname(TOP), "tools", "editlens", "desk", "page"))
+FOLDERS = (os.path.join(TOP, "page"), os.path.join(TOP, "clients", "javascript"), os.path.join(os.path.dirname(drawing.__file__), "page"))
 KINDS = {".html": "text/html", ".css": "text/css", ".js": "text/javascript"}
 POLICY = "default-src 'none'; script-src 'self'; style-src 'self'; img-src data:; connect-src 'self'; base-uri 'none'; form-action 'none'; frame-ancestors 'none'"
 HEADERS = {"Content-Security-Policy": POLICY, "X-Content-Type-Options": "nosniff", "Referrer-Policy": "no-referrer", "Cache-Control": "no-cache"}

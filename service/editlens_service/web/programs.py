@@ -17,7 +17,7 @@ from editlens.types import write_type
 
 from ..drafts import Draft, Kept, Made
 from ..engine import PairState, ProgramRefused, SIDES, Session
-from ..problems import Conflict, Refused
+from ..problems import Conflict, Problem, Refused
 from .edits import _shown
 from .pairs import program_problem, said
 from .requests import about, body_of, change_of, json_of, member, need_type
@@ -40,24 +40,28 @@ async def check(request: web.Request) -> web.Response:
 async def change(request: web.Request) -> web.Response:
     """Puts the documents of a pair under another lens program, as `tools/store change-lens` does for a store.
 
-    New fields begin with their initial values. Where anything of the documents goes, the request is refused with the list, unless `accept-loss`
-    is true. Streams are told to read their documents again.
+    New fields begin with their initial values. `rename` has the new names of fields that are gone, by their places or their names. Where
+    anything of the documents goes, the request is refused with the list, unless `accept-loss` is true. Streams are told to read their
+    documents again.
     """
     it = await about(request, "manage")
     need_type(request, "application/json")
     body = await body_of(request)
     tree = json_of(body)
     program, accepts = member(tree, "program", str), member(tree, "accept-loss", bool, False)
+    renames = member(tree, "rename", dict, {})
+    if not all(isinstance(it, str) for it in renames.values()):
+        raise Problem('the members of "rename" are to be strings', member="rename")
 
     async def work(kept: Kept) -> Made:
-        return _changed(kept, program, accepts)
+        return _changed(kept, program, accepts, renames)
 
     reply, is_earlier = await it.service.keeper.change(it.kind, it.pair, change_of(request, it.who, body, work))
     response = _shown(it, reply, is_earlier)
     return said({"number": reply["number"], "lines": reply["lines"]}, 200, {"ETag": response.headers["ETag"]})
 
 
-def _changed(kept: Kept, program: str, accepts: bool) -> Made:
+def _changed(kept: Kept, program: str, accepts: bool, renames: "dict[str, str]") -> Made:
     """The record of another program, with the documents that fit it."""
     try:
         fresh = PairState.begin(program, {})
@@ -66,7 +70,11 @@ def _changed(kept: Kept, program: str, accepts: bool) -> Made:
     types = fresh.types()
     fresh.close()
     held = {side: read_json(kept.state.document(side)) for side in SIDES}
-    fitted = {side: Fitting(types[side], held[side]) for side in SIDES}
+    fitted = {side: Fitting(types[side], held[side], renames.items()) for side in SIDES}
+    used = {it for one in fitted.values() for it in one.used}
+    unused = [f"no field {old} is gone that can be called {new}" for old, new in renames.items() if old not in used]
+    if unused:
+        raise Conflict("; ".join(unused), cause="rename")
     for side in SIDES:
         wrong = [str(it) for it in misfits(types[side], fitted[side].document)]
         if wrong:
