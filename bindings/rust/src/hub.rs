@@ -68,7 +68,7 @@ impl Hub {
 
     fn made(open: impl FnOnce(*mut u8)) -> Result<Hub, Error> {
         let layout = Layout::from_size_align(unsafe { raw::editlens_hub_size() }, 16).unwrap();
-        let Some(at) = NonNull::new(unsafe { alloc(layout) }) else { handle_alloc_error(layout) };
+        let at = NonNull::new(unsafe { alloc(layout) }).unwrap_or_else(|| handle_alloc_error(layout));
         open(at.as_ptr());
         let mut hub = Hub { at, layout };
         let answer = unsafe { raw::editlens_hub_status(hub.at.as_ptr()) };
@@ -113,7 +113,10 @@ impl Hub {
     pub fn texts(&mut self) -> Result<Vec<String>, Error> {
         let mut texts = vec![self.document()?];
         for number in 0.. {
-            let (Some(view), Some(complement)) = (self.view(number)?, self.complement(number)?) else { break };
+            let (view, complement) = match (self.view(number)?, self.complement(number)?) {
+                (Some(view), Some(complement)) => (view, complement),
+                _ => break,
+            };
             texts.extend([view, complement]);
         }
         Ok(texts)

@@ -201,7 +201,7 @@ impl Session {
 
     fn made(open: impl FnOnce(*mut u8)) -> Result<Session, Error> {
         let layout = Layout::from_size_align(unsafe { raw::editlens_session_size() }, 16).unwrap();
-        let Some(at) = NonNull::new(unsafe { alloc(layout) }) else { handle_alloc_error(layout) };
+        let at = NonNull::new(unsafe { alloc(layout) }).unwrap_or_else(|| handle_alloc_error(layout));
         open(at.as_ptr());
         let mut session = Session { at, layout, opening: String::new() };
         let answer = unsafe { raw::editlens_session_status(session.at.as_ptr()) };
