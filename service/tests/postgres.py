@@ -84,7 +84,7 @@ class Postgres:
         with open(os.path.join(self.folder, "log"), "ab") as log:
             self.server = subprocess.Popen(self._words("postgres", "-D", self.data, *settings), cwd=self.folder, stdout=log, stderr=log)
         deadline = time.monotonic() + PATIENCE
-        while subprocess.run(self._words("pg_isready", "-q", "-h", self.folder), check=False).returncode:
+        while subprocess.run(self._words("pg_isready", "-q", "-h", self.folder), cwd=self.folder, check=False).returncode:
             if time.monotonic() > deadline or self.server.poll() is not None:
                 raise OSError(f"PostgreSQL does not start: {self.log()[-2000:]}")
             time.sleep(0.05)

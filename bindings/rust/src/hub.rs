@@ -112,7 +112,10 @@ impl Hub {
     pub fn texts(&mut self) -> Result<Vec<String>, Error> {
         let mut texts = vec![self.document()?];
         for number in 0.. {
-            let (Some(view), Some(complement)) = (self.view(number)?, self.complement(number)?) else { break };
+            let (view, complement) = match (self.view(number)?, self.complement(number)?) {
+                (Some(view), Some(complement)) => (view, complement),
+                _ => break,
+            };
             texts.extend([view, complement]);
         }
         Ok(texts)

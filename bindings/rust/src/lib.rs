@@ -325,7 +325,7 @@ impl Session {
 fn room_for(size: usize) -> (NonNull<u8>, Layout) {
     assert_eq!(unsafe { raw::editlens_version() }, raw::VERSION, "libeditlens has another interface than this crate");
     let layout = Layout::from_size_align(size, 16).unwrap();
-    let Some(at) = NonNull::new(unsafe { alloc_zeroed(layout) }) else { handle_alloc_error(layout) };
+    let at = NonNull::new(unsafe { alloc_zeroed(layout) }).unwrap_or_else(|| handle_alloc_error(layout));
     (at, layout)
 }
 
