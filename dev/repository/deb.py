@@ -69,7 +69,8 @@ def program_package(built):
     examples = [(name, os.path.join(TOP, name)) for name in tracked() if name.startswith("examples/")]
     tree = [*_placed(tree), *_documents("editlens", built, examples)]
     symlinks = [("usr/" + name + ".gz" * name.startswith("share/man/"), target + ".gz" * name.startswith("share/man/")) for name, target in links()]
-    wanted = f"Depends: libc6 (>= {libc_of(built.programs.values())}), bash, coreutils, python3 (>= 3.9)\nSuggests: chromium\nSection: utils"
+    depends = f"Depends: libc6 (>= {libc_of(built.programs.values())}), bash, coreutils, python3 (>= 3.9)"
+    wanted = f"{depends}\nRecommends: python3-ruamel.yaml, python3-tomlkit\nSuggests: chromium\nSection: utils"
     title = "keeps two JSON documents of different shape in step by translating edits"
     data = _deb("editlens", tree, symlinks, more=f"{wanted}\nPriority: optional", title=title, text=ABOUT)
     return f"editlens_{version()}_{ARCHITECTURE}.deb", data

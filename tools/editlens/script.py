@@ -26,6 +26,10 @@ HOW = {
     "--json-schema": {"action": "store_true"},
     "--typescript": {"action": "store_true"},
     "way": {"choices": ["to", "from"]},
+    "--as": {"choices": ["json", "yaml", "toml"], "dest": "syntax"},
+    "--like": {"metavar": "FILE"},
+    "--left-file": {"metavar": "FILE"},
+    "--right-file": {"metavar": "FILE"},
 }
 
 

@@ -52,15 +52,6 @@ def read_file(text):
     return tree
 
 
-def read_file_at(path):
-    """The tree of a user's file at a path."""
-    with open(path, "rb") as file:
-        try:
-            return read_file(file.read().decode())
-        except ValueError as why:
-            raise NotJson(f"{path}: {why}") from None
-
-
 def need_json(tree):
     """Raises NotJson where a value of a Python program is not JSON, or has a text that no file may have."""
     left = [tree]
