@@ -56,6 +56,8 @@ def test_completion_knows_every_command_and_every_tool():
     assert completed("./editlens", "hub-store", "''") == commands(HUBS)
     assert completed("./editlens", "store", "''") == verbs | {"check", "import"}
     assert completed("./editlens", "un") == {"undo"}
+    assert completed("./editlens", "patch", "--left") == {"--left-file", "--left-form"}
+    assert completed("./editlens", "store", "change-lens", "--re") == {"--rename"}
     of_editlens, of_edithub = read_page("completions/_editlens").split("hub_commands=(")
     assert set(re.findall(r"(?m)^    '(\w+):", of_editlens)) == commands()
     assert set(re.findall(r"(?m)^    '(\w+):", of_edithub)) == commands(HUBS)

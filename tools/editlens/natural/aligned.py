@@ -36,7 +36,7 @@ def _same(old, new, left_old, left_new):
 
 
 def _alike(old, new, left_old, left_new):
-    """The pairs of objects that have most members in common, the nearest first."""
+    """The pairs of objects that have most in common, the nearest first."""
     if len(left_old) * len(left_new) > MOST_COMPARED:
         return []
     rated = []
@@ -55,10 +55,16 @@ def _alike(old, new, left_old, left_new):
 
 
 def _common(one, other):
-    """How many members two objects have in common."""
+    """How many simple values two objects have in common, at any depth."""
     if not isinstance(one, dict) or not isinstance(other, dict):
         return 0
-    return sum(name in other and is_same(value, other[name]) for name, value in one.items())
+    return sum(_alike_inside(value, other[name]) for name, value in one.items() if name in other)
+
+
+def _alike_inside(one, other):
+    if isinstance(one, list) and isinstance(other, list):
+        return sum(map(_alike_inside, one, other))
+    return _common(one, other) if isinstance(one, dict) else int(is_same(one, other))
 
 
 def _in_order(old, new, left_old, left_new):

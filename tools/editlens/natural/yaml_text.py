@@ -134,6 +134,7 @@ class _Writer:
         own = {key.tree: value for key, value in node.entries if not is_merge(key)}
         keeps = [wanted.keys() >= {key.tree} if not is_merge(key) else is_merged for key, _ in node.entries]
         added = {name: it for name, it in wanted.items() if name not in own and not (name in base and is_same(base[name], it))}
+        renamed = _renamed(node, keeps, added)
         if not any(keeps):
             return None
         for (_, value), is_kept in zip(node.entries, keeps):
@@ -145,8 +146,10 @@ class _Writer:
         cuts = {}
         for number, (key, value) in enumerate(node.entries):
             if keeps[number] and not is_merge(key):
-                slot = behind_colon(self.text, key.end)
-                cuts[number] = self.of_node(value, wanted[key.tree], slot, self.column(key.start), in_flow or node.is_flow)
+                name, slot = renamed.get(number, key.tree), behind_colon(self.text, key.end)
+                cuts[number] = self.of_node(value, wanted[name], slot, self.column(key.start), in_flow or node.is_flow)
+                if number in renamed:
+                    cuts[number].append((key.start, key.end, scalar(name, key.style, in_flow or node.is_flow)))
         if not is_other:
             return [it for some in cuts.values() for it in some]
         places = [(key.start, max(value.last, behind_colon(self.text, key.end))) for key, value in node.entries]
@@ -231,6 +234,17 @@ class _Writer:
     def _first_above(self, place, column, is_root):
         """Where the block of a first entry begins. What stands above the first entry of a file is about the file."""
         return place - column if is_root else self._above(0, place, column)
+
+
+def _renamed(node, keeps, added):
+    """The entries of a map whose content has another name now, by their numbers. They are kept, and are not added."""
+    found = {}
+    for number, (_, value) in enumerate(node.entries):
+        name = next((it for it, new in added.items() if not keeps[number] and is_same(value.tree, new)), None)
+        if name is not None:
+            found[number], keeps[number] = name, True
+            del added[name]
+    return found
 
 
 def _columns(text, root):
