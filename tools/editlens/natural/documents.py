@@ -106,7 +106,7 @@ def key_name(shape):
 
 
 def taken_out(places, tree, path=()):
-    """The values of the nested places of the key in an item of a list by key, or in a part of it, by their paths; and what is left of it."""
+    """The values of the nested places of the key in an item of a list by key, or in a part of it, by their paths; and what is left."""
     if not isinstance(tree, (dict, list)):
         return {}, tree
     found, left = {}, dict(tree) if isinstance(tree, dict) else list(tree)
@@ -308,7 +308,8 @@ class _Reader:
         first, *others = [(steps, keys.get(tuple(steps), NOTHING)) for steps in shape.key_paths]
         text = number_text(first[1]) if "number" in form else first[1]
         if not isinstance(text, str):
-            self.wrong((*path, *first[0]), "a number" if "number" in form else "a string", "nothing" if first[1] is NOTHING else (first[1],))
+            sort = "a number" if "number" in form else "a string"
+            self.wrong((*path, *first[0]), sort, "nothing" if first[1] is NOTHING else (first[1],))
             text = path
         for steps, key in others:
             if text is not path and (key is NOTHING or not is_same(key, first[1])):

@@ -115,8 +115,12 @@ class _Reader:
     def __init__(self, yaml, text):
         self.events, self.text, self.faults, self.anchors, self.path = yaml.events, text, [], {}, []
 
+    def at(self, mark, reason):
+        """A reason with its place."""
+        return f"{place_name(self.path)} (line {mark.line + 1}): {reason}"
+
     def wrong(self, mark, reason):
-        self.faults.append(f"{place_name(self.path)} (line {mark.line + 1}): {reason}")
+        self.faults.append(self.at(mark, reason))
 
     def document(self, stream):
         stream, root = iter(stream), None
@@ -155,7 +159,7 @@ class _Reader:
     def alias(self, event):
         target = self.anchors.get(event.anchor)
         if target is None:
-            raise NotJson(f"{place_name(self.path)} (line {event.start_mark.line + 1}): no node above it, and not around it, is called &{event.anchor}")
+            raise NotJson(self.at(event.start_mark, f"no node above it, and not around it, is called &{event.anchor}"))
         start, end = event.start_mark.index, event.end_mark.index
         return Node("alias", start, end, tree=target.tree, last=end, size=target.size, target=target, has_alias=True)
 
@@ -202,7 +206,7 @@ class _Reader:
     def key(self, event, before):
         """The key of a member, which is its letters, also where they are those of a number."""
         if not isinstance(event, self.events.ScalarEvent) or event.start_mark.index == event.end_mark.index or event.tag or event.anchor:
-            raise NotJson(f"{place_name(self.path)} (line {event.start_mark.line + 1}): the key of a member is a text, without a tag or an anchor")
+            raise NotJson(self.at(event.start_mark, "the key of a member is a text, without a tag or an anchor"))
         start, end = event.start_mark.index, event.end_mark.index
         return Node("scalar", start, end, style=event.style, tree=event.value, last=end)
 

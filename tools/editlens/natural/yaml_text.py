@@ -197,10 +197,10 @@ class _Writer:
         return self.blocks(node, places, new, cuts)
 
     def blocks(self, node, places, wanted, cuts):
-        """The cut that puts the entries or items of a block in another order, some of them new: an old one by its number, a new one by its lines.
+        """The cut that puts the entries or items of a block in another order: an old one by its number, a new one by its lines.
 
-        Each has the text between it and the one before it: what stands directly above it goes and moves with it. Comments that an empty line
-        sets apart stay.
+        Each has the text between it and the one before it: what stands directly above it goes and moves with it. Comments that an
+        empty line sets apart stay.
         """
         column, texts, apart = self.column(places[0][0]), {}, ""
         is_inside = self.text[places[0][0] - column : places[0][0]].strip() != ""
