@@ -13,7 +13,11 @@ _editlens() {
         hub-store) commands=$hub place=2 ;;
         store) commands="$verbs check import" place=2 ;;
     esac
-    if [ "$COMP_CWORD" -eq "$place" ]; then
+    if [ "$COMP_CWORD" -gt "$place" ] && [[ $word == -* ]]; then
+        # The options of a tool, or of a verb of store, as its help lists them.
+        commands=$("${COMP_WORDS[@]:0:place+1}" --help 2>/dev/null | grep -o -e '--[a-z][a-z-]*')
+        mapfile -t COMPREPLY < <(compgen -W "$commands" -- "$word" | sort -u)
+    elif [ "$COMP_CWORD" -eq "$place" ]; then
         mapfile -t COMPREPLY < <(compgen -W "$commands" -- "$word" | sort -u)
     fi
 }

@@ -71,7 +71,7 @@ def program_package(built):
     symlinks = [("usr/" + name + ".gz" * name.startswith("share/man/"), target + ".gz" * name.startswith("share/man/")) for name, target in links()]
     linked = [*built.programs.values(), *([os.path.join(built.library, "lib", "libeditlens.so")] if built.library else [])]
     wanted = f"Depends: libc6 (>= {libc_of(linked)}), bash, coreutils, python3 (>= 3.9)"
-    wanted += "\nRecommends: python3-aiohttp, python3-asyncpg\nSuggests: chromium, postgresql\nSection: utils"
+    wanted += "\nRecommends: python3-aiohttp, python3-asyncpg, python3-ruamel.yaml, python3-tomlkit\nSuggests: chromium, postgresql\nSection: utils"
     title = "keeps two JSON documents of different shape in step by translating edits"
     data = _deb("editlens", tree, symlinks, more=f"{wanted}\nPriority: optional", title=title, text=ABOUT)
     return f"editlens_{version()}_{ARCHITECTURE}.deb", data

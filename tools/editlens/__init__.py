@@ -1,4 +1,4 @@
-"""Tools around editlens, in Python's standard library alone. They are tested (tools/check) and not proved.
+"""Tools around editlens, in Python's standard library alone, but for YAML and TOML. They are tested (tools/check) and not proved.
 
 Session     a client: the program as a co-process, one edit in and one answer out
 Hub, Link   the same for a hub and its views, and for two sites that take turns
@@ -12,7 +12,7 @@ edits       what an edit does to a document, and why it is refused
 construct   the edits that build a document
 patches     JSON Patch (RFC 6902) to edits, and back
 infer       a program and form files from samples; `natural_schemas`: what a type means, as a JSON Schema
-natural     users' files as they are: form files, documents and patches both ways
+natural     users' files as they are: form files, documents and patches both ways; `kept_files`: files that follow a store
 private     what the other side would lose by a patch; `trial`: edits that are tried out before they are sent
 patch_lines lines of patches for a store, and their answers
 named       edits that name an item or a node by what it has

@@ -31,17 +31,20 @@ class _Writer:
 
     def of(self, shape: Shape) -> object:
         """The schema of what is written at a place. What may be missing is as it is if it is there."""
-        kind, form = shape.ty.kind, shape.form
+        kind, form = shape.kind, shape.form
         if shape.is_untagged():
             there = [{"type": "null"} if form.get("null") == tag else self.of(it) for tag, it in shape.inner.items() if form.get("missing") != tag]
             return there[0] if len(there) == 1 else {"anyOf": there}
+        if kind == "one":
+            return {"type": "array", "items": self.of(shape.inner["*"]), "minItems": 1, "maxItems": 1}
         if kind in ("unit", "bool", "int", "text", "enum"):
             return _simple(shape)
         if kind == "list":
             return {"type": "array", "items": self.of(shape.inner["*"])}
         if shape.is_key_list():
             key = {"type": "number" if "number" in form else "string"}
-            return {"type": "array", "items": _objects(self.joined(form, shape.content(), {form["key"]: key}, {form["key"]}))}
+            items = _objects(self.joined(form, shape.content(), {}, set()))
+            return {"type": "array", "items": _with_keys(items, shape.key_places, key)}
         if kind == "tree" and "children" in form:
             return self.node(shape)
         return _objects(self.variants(shape))
@@ -58,7 +61,7 @@ class _Writer:
 
     def variants(self, shape):
         """What an object at a place may be: the schemas of its members, the members that it must have, and the schema of all others."""
-        kind, form = shape.ty.kind, shape.form
+        kind, form = shape.kind, shape.form
         if shape.is_untagged():
             return [it for inner in shape.inner.values() for it in self.variants(inner)]
         if kind == "unit":
@@ -112,8 +115,21 @@ class _Writer:
         return found
 
 
+def _with_keys(schema, places, key):
+    """The schema of an item, or of a part of it, with its key at some nested places."""
+    if "anyOf" in schema:
+        return {"anyOf": [_with_keys(it, places, key) for it in schema["anyOf"]]}
+    if schema.get("type") == "array":
+        return {**schema, "items": _with_keys(schema["items"], places["0"], key)}
+    empty = {"type": "object", "properties": {}, "required": [], "additionalProperties": False}
+    members = dict(schema["properties"])
+    for name, below in places.items():
+        members[name] = key if below is True else _with_keys(members.get(name, empty), below, key)
+    return {**schema, "properties": members, "required": sorted({*schema["required"], *places})}
+
+
 def _simple(shape):
-    kind, form = shape.ty.kind, shape.form
+    kind, form = shape.kind, shape.form
     if kind == "text":
         if "decimal" in form:
             return {"type": "string", "pattern": NUMBER}

@@ -9,7 +9,7 @@ from .construct import set_steps, words_of
 from .documents import misfits
 from .json_text import pointer, read_json, shown, write_json
 from .load import DoesNotFit, load_store
-from .natural import read_file_at, read_form_at, to_document
+from .natural import plain, read_file_at, read_form_at, syntax_of, to_document
 from .replacement import NotDone, Replacement
 from .session import check
 from .store import ImportRefused, Store
@@ -226,11 +226,12 @@ def read_document(path: str) -> Any:
 
 
 def documents_at(program_text: str, paths: Iterable[str | None], forms: Iterable[str | None]) -> tuple[Any, ...]:
-    """The documents of two files, or None for each that is not named. A file with a form file is a user's own, by the new types."""
+    """The documents of two files, or None for each that is not named. One with a form file, or in YAML or TOML, is a user's own, by the new types."""
     found = []
     for side, (path, form) in enumerate(zip(paths, forms)):
-        if path and form:
-            found.append(to_document(read_form_at(check(program_text)[side], form), read_file_at(path)))
+        if path and (form or syntax_of(path) != "json"):
+            ty = check(program_text)[side]
+            found.append(to_document(read_form_at(ty, form) if form else plain(ty), read_file_at(path)))
         elif form:
             raise ValueError(f"{form}: a form file says how to read a document, and none is named by {('--left', '--right')[side]}")
         else:

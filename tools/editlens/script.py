@@ -29,6 +29,10 @@ HOW: dict[str, dict[str, Any]] = {
     "--json-schema": {"action": "store_true"},
     "--typescript": {"action": "store_true"},
     "way": {"choices": ["to", "from"]},
+    "--as": {"choices": ["json", "yaml", "toml"], "dest": "syntax"},
+    "--like": {"metavar": "FILE"},
+    "--left-file": {"metavar": "FILE"},
+    "--right-file": {"metavar": "FILE"},
 }
 
 

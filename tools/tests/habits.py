@@ -55,6 +55,8 @@ def test_completion_knows_every_command_and_every_tool():
     assert completed("./editlens", "hub-store", "''") == commands(HUBS)
     assert completed("./editlens", "store", "''") == of_store
     assert completed("./editlens", "un") == {"undo"}
+    assert completed("./editlens", "patch", "--left") == {"--left-file", "--left-form"}
+    assert completed("./editlens", "store", "change-lens", "--re") == {"--rename"}
     page = read_page("completions/_editlens")
     lists = {name: set(re.findall(r"'([\w-]+):", body)) for name, body in re.findall(r"(?s)(\w+)=\(\n(.*?)\n\)", page)}
     assert lists == {"commands": commands(), "hub_commands": commands(HUBS), "verbs": own}, lists

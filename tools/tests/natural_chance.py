@@ -167,10 +167,45 @@ class Source:
 
         return Drawn(Ty("tree", inner=inner.ty), {**_inside(inner), (): form}, draw, "object", not is_apart and inner.is_open)
 
+    def one(self, depth):
+        """A list of exactly one, around anything else."""
+        inner = self.drawn(depth - 1)
+        form = inner.forms.get((), {})
+        if "one" in form:
+            return inner
+        form = {form: True, "one": True} if isinstance(form, str) else {**form, "one": True} if form else "one"
+        return Drawn(inner.ty, {**inner.forms, (): form}, lambda: [inner.draw()], "array")
+
+    def key_inside(self, depth):
+        """A list by key whose items have their key further inside, or several times."""
+        only = self.record(max(depth - 1, 0))
+        fields = [(self.name(), self.record(max(depth - 1, 0))), (self.name(), self.keyed(1))]
+        fields.append((self.name(), Drawn(only.ty, {**only.forms, (): "one"}, lambda: [only.draw()], "array")))
+        record, keyed, one = (name for name, _ in fields)
+        made = self.name()
+        paths = [(made,), (self.name(), made), (record, made), (record, self.name(), made), (keyed, made), (one, "0", made), (one, "0", self.name(), made)]
+        first, *others = random.sample(paths, random.randint(1, 4))
+        form = {"key": first[-1], **({"in": pointer(first[:-1])} if len(first) > 1 else {}), **({"repeat": list(map(pointer, others))} if others else {})}
+        ty = Ty("record", fields=tuple(sorted(((name, it.ty) for name, it in fields), key=lambda it: it[0].encode())))
+
+        def draw(key):
+            item = _record(fields, [])
+            for path in (first, *others):
+                _put_key(item, path, key)
+            return item
+
+        return self.keyed_list(form, Drawn(ty, _under(fields), None, "object"), draw)
+
     def by_key(self, depth):
-        is_apart, has_order = random.random() < 0.4, random.random() < 0.5
+        is_apart = random.random() < 0.4
         inner = self.drawn(depth - 1, None if is_apart else "object")
-        form = {"key": self.name(), **({"content": self.name()} if is_apart else {}), **({"number": True} if random.random() < 0.3 else {})}
+        form = {"key": self.name(), **({"content": self.name()} if is_apart else {})}
+        return self.keyed_list(form, inner, lambda key: _with(form, {form["key"]: key}, inner.draw()))
+
+    def keyed_list(self, form, inner, draw_item):
+        """A list by key with a form, of items that a call draws by their keys."""
+        has_order = random.random() < 0.5
+        form = {**form, **({"number": True} if random.random() < 0.3 else {})}
         ty, forms = Ty("keyed", inner=inner.ty), _inside(inner)
         if has_order:
             places, order = self.names(2, 2)
@@ -180,7 +215,7 @@ class Source:
 
         def draw():
             keys = random.sample([0, 5, -2, 12, Number("1.50")], 3) if "number" in form else _keys()
-            return [_with(form, {form["key"]: key}, inner.draw()) for key in keys]
+            return [draw_item(key) for key in keys]
 
         return Drawn(ty, {**forms, (): form}, draw, "array")
 
@@ -193,7 +228,7 @@ _MAKERS = (
     [(getattr(Source, it), sort, True) for it, sort in (("unit", "null"), ("bool", "bool"), ("words", "bool"), ("int", "number"))]
     + [(getattr(Source, it), sort, True) for it, sort in (("number", "number"), ("text", "string"), ("decimal", "string"), ("enum", "string"), ("json", "any"))]
     + [(getattr(Source, it), "object", it == "record") for it in ("record", "keyed", "alternatives", "kind", "tree", "nested")]
-    + [(getattr(Source, it), "array", it == "list") for it in ("list", "by_key")]
+    + [(getattr(Source, it), "array", it == "list") for it in ("list", "by_key", "one", "key_inside")]
     + [(getattr(Source, it), "mixed", False) for it in ("null", "untagged")]
     + [(Source.missing, "missing", False)]
 )
@@ -213,6 +248,12 @@ def _either(tags):
 
 def _keys():
     return random.sample(["", "k", "K", "two words", "é", "a/b", "0"], random.randint(0, 3))
+
+
+def _put_key(item, path, key):
+    for step in path[:-1]:
+        item = item[0] if isinstance(item, list) else item.setdefault(step, {})
+    item[path[-1]] = key
 
 
 def _many(draw):

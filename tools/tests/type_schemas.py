@@ -22,7 +22,7 @@ try:
 except ImportError:
     jsonschema = None
 
-GAPS = ("depths in preorder", "contents, one for each depth", "a key that no other item has", "at most 17 levels")
+GAPS = ("depths in preorder", "contents, one for each depth", "a key that no other item has", "the key of this item", "at most 17 levels")
 """What a schema cannot say: so begin what a place wants there."""
 
 

@@ -8,7 +8,7 @@ from typing import Any, Iterable, Sequence
 from ..documents import MOST_DEPTH, Misfit, is_depth_list, is_int
 from ..json_text import pointer
 from ..types import write_name
-from .forms import Shape, is_object, sorts
+from .forms import Shape, field_of, is_object, sorts
 from .places import Place, content, members
 from .text import is_same, number_text, read_number, shown, sort_of, write_file
 
@@ -80,7 +80,9 @@ def _all_of(read):
 
 def wanted(shape: Shape) -> str:
     """What a place of a file wants, for a person."""
-    kind, form = shape.ty.kind, shape.form
+    kind, form = shape.kind, shape.form
+    if kind == "one":
+        return "an array of exactly one item"
     if shape.is_untagged():
         return "one of: " + "; ".join(wanted(it) for tag, it in shape.inner.items() if form.get("missing") != tag)
     if kind == "enum":
@@ -88,7 +90,7 @@ def wanted(shape: Shape) -> str:
     if kind == "text" and ("number" in form or "decimal" in form):
         return "a number" if "number" in form else "a string with the text of a number"
     if kind == "list" or shape.is_key_list():
-        return "an array" + (f" of objects with the member {form['key']}" if shape.is_key_list() else "")
+        return "an array" + (f" of objects with the member {key_name(shape)}" if shape.is_key_list() else "")
     if "kind" in form:
         return f"an object with the member {form['kind']}, one of " + ", ".join(f'"{it}"' for it in shape.inner)
     if "children" in form:
@@ -99,6 +101,48 @@ def wanted(shape: Shape) -> str:
         return "an object with the members " + (", ".join(map(write_name, _written_names(shape))) or "of an empty record")
     simple = {"unit": "null", "bool": "true or false", "text": "a string", "int": "a whole number within 64 bits, without fraction or exponent"}
     return {**simple, "keyed": "an object, used as a map", "tree": "an object with exactly the members depths and items"}[kind]
+
+
+def key_name(shape):
+    """The member with the key of an item, or its place in it."""
+    return shape.form["key"] if "in" not in shape.form else pointer(shape.key_paths[0])
+
+
+def taken_out(places, tree, path=()):
+    """The values of the nested places of the key in an item of a list by key, or in a part of it, by their paths; and what is left."""
+    if not isinstance(tree, (dict, list)):
+        return {}, tree
+    found, left = {}, dict(tree) if isinstance(tree, dict) else list(tree)
+    for name, below in places.items():
+        at = name if isinstance(tree, dict) else int(name) if name == "0" and tree else None
+        if at is None or isinstance(tree, dict) and at not in tree:
+            continue
+        if below is True:
+            found[(*path, name)] = left.pop(at)
+        else:
+            more, left[at] = taken_out(below, left[at], (*path, name))
+            found.update(more)
+    return found, left
+
+
+def without_empty(shape, places, tree, path=(), left_over=None):
+    """What is left of an item without the objects that were there for a key alone: those that the shape of the content does not have.
+
+    What such an object has else is no member of the content. It is added to `left_over` by its path.
+    """
+    if isinstance(tree, list):
+        return [without_empty(field_of(shape, "0"), places.get("0", {}), it, (*path, 0), left_over) for it in tree]
+    if not isinstance(tree, dict):
+        return tree
+    left = dict(tree)
+    for name in [it for it, below in places.items() if below is not True and it in tree]:
+        inner = field_of(shape, name)
+        left[name] = without_empty(inner, places[name], left[name], (*path, name), left_over)
+        if inner is None and isinstance(left[name], dict):
+            gone = left.pop(name)
+            if left_over is not None:
+                left_over.update({(*path, name, it): value for it, value in gone.items()})
+    return left
 
 
 def _written_names(shape):
@@ -124,7 +168,7 @@ class _Reader:
             return None
         if shape.is_key_list():
             return self.key_list(shape, tree, path)
-        return getattr(self, shape.ty.kind, self.simple)(shape, tree, path)
+        return getattr(self, shape.kind, self.simple)(shape, tree, path)
 
     def untagged(self, shape, tree, path):
         form, sort = shape.form, "missing" if tree is NOTHING else sort_of(tree)
@@ -137,7 +181,7 @@ class _Reader:
         return None
 
     def simple(self, shape, tree, path):
-        form, kind = shape.form, shape.ty.kind
+        form, kind = shape.form, shape.kind
         if "number" in form:
             return number_text(tree)
         if "json" in form:
@@ -168,6 +212,12 @@ class _Reader:
     def unknown(self, left, path):
         for name in sorted(left):
             self.wrong((*path, name), "no such member", (left[name],))
+
+    def one(self, shape, tree, path):
+        if len(tree) == 1:
+            return self.read(shape.inner["*"], tree[0], (*path, 0))
+        self.wrong(path, wanted(shape), f"{len(tree)} items")
+        return None
 
     def list(self, shape, tree, path):
         return [self.read(shape.inner["*"], item, (*path, number)) for number, item in enumerate(tree)]
@@ -244,7 +294,8 @@ class _Reader:
         for number, item in enumerate(tree):
             key, value = self.item(shape, item, (*path, number))
             if key in found:
-                self.wrong((*path, number, form["key"]), "a key that no other item has", (item[form["key"]],))
+                at = tuple(shape.key_paths[0])
+                self.wrong((*path, number, *at), "a key that no other item has", (taken_out(shape.key_places, item)[0].get(at),))
             found[key] = value
         if "order" not in form:
             return found
@@ -254,12 +305,20 @@ class _Reader:
         """The key and the content of an item of a list by key."""
         form = shape.form
         if not isinstance(tree, dict):
-            self.wrong(path, f"an object with the member {form['key']}", (tree,))
+            self.wrong(path, f"an object with the member {key_name(shape)}", (tree,))
             return path, None
-        left = dict(tree)
-        key = left.pop(form["key"], NOTHING)
-        text = number_text(key) if "number" in form else key
+        keys, left = taken_out(shape.key_places, tree)
+        first, *others = [(steps, keys.get(tuple(steps), NOTHING)) for steps in shape.key_paths]
+        text = number_text(first[1]) if "number" in form else first[1]
         if not isinstance(text, str):
-            self.wrong((*path, form["key"]), "a number" if "number" in form else "a string", "nothing" if key is NOTHING else (key,))
+            sort = "a number" if "number" in form else "a string"
+            self.wrong((*path, *first[0]), sort, "nothing" if first[1] is NOTHING else (first[1],))
             text = path
+        for steps, key in others:
+            if text is not path and (key is NOTHING or not is_same(key, first[1])):
+                self.wrong((*path, *steps), f"{shown(first[1])}, the key of this item", "nothing" if key is NOTHING else (key,))
+        left_over = {}
+        left = without_empty(shape.content(), shape.key_places, left, (), left_over)
+        for steps, value in left_over.items():
+            self.wrong((*path, *steps), "no such member", (value,))
         return text, self.content(shape, shape.content(), left, path)

@@ -11,7 +11,7 @@ from ..types import Ty, write_type
 from .text import read_file, read_number, sort_of
 
 OPTIONS = {
-    "key": ("keyed", {"content": str, "number": bool, "order": str}),
+    "key": ("keyed", {"content": str, "number": bool, "order": str, "in": str, "repeat": list}),
     "number": ("text", {}),
     "decimal": ("text", {}),
     "json": ("text", {}),
@@ -31,7 +31,7 @@ KINDS = {
     "text": "a text",
     "tree": "a tree",
 }
-WORDS = ("number", "decimal", "json", "untagged", "flat")
+WORDS = ("number", "decimal", "json", "untagged", "flat", "one")
 SCALARS = ("null", "bool", "number", "string")
 
 
@@ -53,11 +53,19 @@ class Names:
 
 @dataclass(frozen=True)
 class Shape:
-    """A type with the forms of its places: `inner` has the shapes of fields and tags, or the shape of all contents as `*`."""
+    """A type with the forms of its places: `inner` has the shapes of fields and tags, or the shape of all contents as `*`.
+
+    A list of exactly one is a shape around that of its item, of the same type: its form is `one`, and it has the item as `*`.
+    """
 
     ty: Ty
     form: dict = field(default_factory=dict)
     inner: dict = field(default_factory=dict)
+
+    @cached_property
+    def kind(self) -> str:
+        """What is written here: the kind of the type, or `one`."""
+        return "one" if "one" in self.form else self.ty.kind
 
     def is_untagged(self) -> bool:
         """Whether the content of alternatives is written alone."""
@@ -66,6 +74,22 @@ class Shape:
     def is_key_list(self) -> bool:
         """Whether a keyed map is written as a list of objects, each with its key."""
         return "key" in self.form
+
+    @cached_property
+    def key_paths(self) -> list[tuple[str, ...]]:
+        """The paths of the members in an item of a list by key that have its key. The first one counts, and the others repeat it."""
+        return key_paths(self.form)
+
+    @cached_property
+    def key_places(self) -> dict:
+        """The same as nested members: True is a place of the key."""
+        found: dict = {}
+        for *around, last in self.key_paths:
+            inside = found
+            for step in around:
+                inside = inside.setdefault(step, {})
+            inside[last] = True
+        return found
 
     @cached_property
     def names(self) -> Names:
@@ -92,6 +116,8 @@ class Shape:
         form = self.form
         if any(it in form and "kind" not in form for it in ("number", "decimal", "json")) or self.open_field and self.other_names:
             return False
+        if self.is_key_list() and any(_may_clash(self.content(), path) for path in self.key_paths):
+            return False
         if "content" not in form and any(it in form for it in ("kind", "children", "key")):
             contents = [self.content()] if "kind" not in form else self.inner.values()
             if any(it.names.is_open for it in contents):
@@ -113,7 +139,7 @@ class Shape:
 
     def content(self) -> Shape:
         """The shape of the contents of a container. For a map with an order it is that of the map's."""
-        return self.inner[self.map_field()].inner["*"] if self.ty.kind == "record" else self.inner["*"]
+        return self.inner[self.map_field()].inner["*"] if self.kind == "record" else self.inner["*"]
 
 
 def plain(ty: Ty) -> Shape:
@@ -154,13 +180,18 @@ def _built(ty, forms, path, used, faults):
         used.add(path)
     if isinstance(form, str):
         form = {form: True} if form in WORDS else {"": form}
+    is_one = isinstance(form, dict) and form.get("one") is True
+    if is_one:
+        form = {name: it for name, it in form.items() if name != "one"}
     reason = _form_fault(ty, form)
     shape = Shape(ty, {} if reason else form, inner)
     reason = reason or _shape_fault(shape, path)
+    if is_one and ("missing" in shape.form or "flat" in shape.form):
+        reason = reason or "what is in a list of one cannot be missing or flat itself"
     if reason:
         faults.append((path, reason))
         return Shape(ty, {}, inner)
-    return shape
+    return Shape(ty, {"one": True}, {"*": shape}) if is_one else shape
 
 
 def _form_fault(ty, form):
@@ -169,7 +200,7 @@ def _form_fault(ty, form):
         return None
     name = next((it for it in OPTIONS if isinstance(form, dict) and it in form), None)
     if name is None:
-        return f"{shown(form.get('', form) if isinstance(form, dict) else form)} is not a form: one of {', '.join(OPTIONS)} is wanted"
+        return f"{shown(form.get('', form) if isinstance(form, dict) else form)} is not a form: one of {', '.join(OPTIONS)}, one is wanted"
     kind, options = OPTIONS[name]
     kinds = ("record",) if name == "key" and "order" in form else ("record", "keyed") if name == "flat" else (kind,)
     if ty.kind not in kinds:
@@ -191,7 +222,7 @@ def _shape_fault(shape, path):
         reason = test(shape) if name in form and (name != "number" or ty.kind == "text") else None
         if reason:
             return reason
-    if ty.kind == "record" and not shape.is_key_list():
+    if shape.kind == "record" and not shape.is_key_list():
         flat = [name for name, inner in shape.inner.items() if "flat" in inner.form]
         unknown = [name for name in flat if shape.inner[name].names.is_open]
         if any(not is_object(shape.inner[name]) for name in flat):
@@ -212,6 +243,30 @@ def _shape_fault(shape, path):
     return None
 
 
+def key_paths(form):
+    """The paths of the key that a form of a list by key says, each a list of steps."""
+    return [[*read_pointer(form.get("in", "")), form["key"]], *map(read_pointer, form.get("repeat", []))]
+
+
+def field_of(shape, step):
+    """The shape of a field of a record that is not flat, or of the item of a list of one; None where there is no such shape."""
+    if shape is None or shape.kind == "one":
+        return shape and shape.inner["*"]
+    inner = shape.inner.get(step) if shape.kind == "record" and not shape.is_key_list() else None
+    return None if inner is None or "flat" in inner.form else inner
+
+
+def _may_clash(shape, path):
+    """Whether a member of a content may have the name of a place of the key: where a step of its path is in a map."""
+    for step in path:
+        if shape is None:
+            return False
+        around, shape = shape, field_of(shape, step)
+        if shape is None:
+            return around.names.is_open
+    return False
+
+
 def _clash(found):
     seen = set()
     twice = next((it for it in found if it in seen or seen.add(it)), None)
@@ -219,7 +274,7 @@ def _clash(found):
 
 
 def _names(shape):
-    kind, form = shape.ty.kind, shape.form
+    kind, form = shape.kind, shape.form
     if kind == "record" and not shape.is_key_list():
         return Names(tuple(_record_names(shape)), any("flat" in it.form and it.names.is_open for it in shape.inner.values()))
     if shape.is_untagged():
@@ -252,12 +307,14 @@ def _record_names(shape):
 
 def is_object(shape: Shape) -> bool:
     """Whether what is written is always an object."""
-    return shape.ty.kind != "unit" and sorts(shape) == {"object"}
+    return shape.kind != "unit" and sorts(shape) == {"object"}
 
 
 def sorts(shape: Shape) -> set[str]:
     """The sorts of JSON that may be written for a shape, `missing` among them."""
-    kind, form = shape.ty.kind, shape.form
+    kind, form = shape.kind, shape.form
+    if kind == "one":
+        return {"array"}
     if kind in ("unit", "bool", "int"):
         return {{"unit": "null", "int": "number", "bool": "bool"}[kind]}
     if kind == "text":
@@ -287,7 +344,7 @@ def _json_fault(shape):
 def _untagged_fault(shape):
     given = [shape.form[it] for it in ("missing", "null") if it in shape.form]
     for tag in given:
-        if tag not in shape.inner or shape.inner[tag].ty.kind != "unit":
+        if tag not in shape.inner or shape.inner[tag].kind != "unit":
             return f"{tag} is not a tag with null as its content"
     if len(set(given)) < len(given):
         return "one tag cannot be both missing and null"
@@ -303,7 +360,7 @@ def _kind_fault(shape):
     if "content" in form:
         return _clash([form["kind"], form["content"]])
     for tag, inner in shape.inner.items():
-        if not is_object(inner) and inner.ty.kind != "unit":
+        if not is_object(inner) and inner.kind != "unit":
             return f"the content of {tag} is not written as an object: name a member for it by content"
         reason = _clash([form["kind"], *inner.names.known])
         if reason:
@@ -314,7 +371,7 @@ def _kind_fault(shape):
 def _merged_fault(shape, extra, content):
     if "content" in shape.form:
         return _clash([extra, shape.form["content"]])
-    if not is_object(content) and content.ty.kind != "unit":
+    if not is_object(content) and content.kind != "unit":
         return "the contents are not written as objects: name a member for them by content"
     return _clash([extra, *content.names.known])
 
@@ -328,11 +385,51 @@ def _children_fault(shape):
 def _key_fault(shape):
     if "order" in shape.form:
         order, others = shape.form["order"], [name for name in shape.inner if name != shape.form["order"]]
-        if order not in shape.inner or len(others) != 1 or shape.inner[others[0]].ty.kind != "keyed" or shape.inner[others[0]].form:
+        if order not in shape.inner or len(others) != 1 or shape.inner[others[0]].kind != "keyed" or shape.inner[others[0]].form:
             return "a record of exactly a keyed map and of its order is wanted"
         if write_type(shape.inner[order].ty) != "list text" or shape.inner[order].inner["*"].form:
             return f"{order} is not a list text"
-    return _merged_fault(shape, shape.form["key"], shape.content())
+    if "in" not in shape.form and "repeat" not in shape.form:
+        return _merged_fault(shape, shape.form["key"], shape.content())
+    return _key_paths_fault(shape)
+
+
+def _key_paths_fault(shape):
+    """What is wrong with the places of a key that is inside its item, or stands there several times."""
+    if "content" in shape.form:
+        return "a key that is inside its item, or stands there several times, cannot have content"
+    if not is_object(shape.content()):
+        return "the contents are not written as objects"
+    try:
+        paths = key_paths(shape.form)
+    except (ValueError, AttributeError):
+        return "in is the JSON Pointer of an object, and repeat a list of those of members"
+    for path in paths:
+        place = pointer(path)
+        if not path or any(other is not path and other[: len(path)] == path for other in paths):
+            return f"{place or '(the item)'} and another place of the key are one place"
+        reason = _key_path_fault(shape.content(), path)
+        if reason:
+            return f"the key cannot stand at {place}: {reason}"
+    return None
+
+
+def _key_path_fault(shape, path):
+    """Why a path of a key cannot be walked: it leads by fields of records and by lists of one, to a new member or into a map."""
+    for number, step in enumerate(path):
+        is_last = number == len(path) - 1
+        if shape is None:
+            continue
+        is_record = shape.kind == "record" and not shape.is_key_list()
+        inner = field_of(shape, step)
+        if shape.kind == "one" and (step != "0" or is_last):
+            return "the only item of a list of one is 0, and is not a key"
+        if is_record and step in shape.names.known and (is_last or inner is None):
+            return "the type has this member" if is_last else "it leads through what is flat"
+        if not is_record and shape.kind != "one" and not (shape.kind == "keyed" and is_last):
+            return f"it leads through {write_type(shape.ty)}"
+        shape = inner
+    return None
 
 
 def _members_fault(shape):

@@ -35,7 +35,9 @@ def file_place(shape: Shape, value: Any, path: list[Any]) -> tuple[list[Any], Sh
     """
     if not path:
         return [], shape
-    step, rest, form, kind = path[0], path[1:], shape.form, shape.ty.kind
+    step, rest, form, kind = path[0], path[1:], shape.form, shape.kind
+    if kind == "one":
+        return _behind([0], shape.inner["*"], value, path)
     if shape.is_key_list():
         return _in_rows(shape, value, path)
     if kind == "tree" and "children" in form:
@@ -58,7 +60,7 @@ def _behind(steps, shape, value, path, more=()):
 def _in_rows(shape, value, path):
     """The place of a list by key: the path names a key of the map, behind the field of the map where there is an order."""
     keys, held = key_order(shape, value), value
-    if shape.ty.kind == "record":
+    if shape.kind == "record":
         if path[0] == shape.form["order"] or not path[1:]:
             return [], None
         held, path = value[path[0]], path[1:]

@@ -29,6 +29,19 @@ class NotWritable(ValueError):
 
 
 @dataclass(frozen=True)
+class Keys:
+    """The places of a key in a part of an item: the item, the nested places, and how many steps lead from the item to the part."""
+
+    item: "Place"
+    places: dict
+    depth: int
+
+    def inside(self, step):
+        """The same in what is at a step."""
+        return Keys(self.item, self.places[step], self.depth + 1)
+
+
+@dataclass(frozen=True)
 class Place:
     """A place of a user's file. `value` is what the document has for it, and `path` the way of an edit there.
 
@@ -36,6 +49,9 @@ class Place:
     `kind` and `key` are the members that say a tag or a key, `item` an object of a list by key, `children` the list of a node's children,
     `node` a node, `depths` and `items` the members of a tree without a form, and `entry` a member of a map. `name` is the key or the
     path of a node.
+
+    Where a key stands inside its item, the places on the way have `keys`: the places of the key in them. Their role is `around` where they
+    are there for the key alone; they have the item's path and value then.
     """
 
     shape: Shape
@@ -44,6 +60,7 @@ class Place:
     role: str = ""
     owner: Any = None
     name: Any = None
+    keys: "Keys | None" = None
 
     def is_missing(self) -> bool:
         """Whether the file has no such member now."""
@@ -132,26 +149,30 @@ def members(place: Place) -> Any:
     """
     place = content(place)
     shape, value = place.shape, place.value
+    if place.keys:
+        return _with_keys(place)
+    if shape.kind == "one" and place.role in ("", "entry"):
+        return Items(1, lambda number: changed(place, shape=shape.inner["*"], role="", owner=None))
     if place.role in _BY_ROLE:
         return _BY_ROLE[place.role](place)
     if shape.is_key_list():
         return _key_items(place)
-    if shape.ty.kind == "record":
+    if shape.kind == "record":
         return _fields(place)
-    if shape.ty.kind == "list":
+    if shape.kind == "list":
         inner = shape.inner["*"]
         return Items(len(value), lambda number: place.at("mod", number, inner, value[number]), (inner, value.__getitem__, None))
-    if shape.ty.kind == "keyed":
+    if shape.kind == "keyed":
         inner = shape.inner["*"]
         return Entries(value, lambda key: place.at("mod", key, inner, value[key], role="entry", owner=place, name=key), inner)
-    if shape.ty.kind == "alternatives" and "kind" not in shape.form:
+    if shape.kind == "alternatives" and "kind" not in shape.form:
         tag = next(iter(value))
         return {tag: place.at("stay", tag, shape.inner[tag], value[tag])}
-    if shape.ty.kind == "alternatives":
+    if shape.kind == "alternatives":
         return _joined(place, shape.form, {shape.form["kind"]: changed(place, role="kind", owner=place)})
-    if shape.ty.kind == "tree" and "children" in shape.form:
+    if shape.kind == "tree" and "children" in shape.form:
         return _node_members(changed(place, owner=place, name=[]))
-    if shape.ty.kind == "tree":
+    if shape.kind == "tree":
         return {role: changed(place, role=role, owner=place) for role in ("depths", "items")}
     return None
 
@@ -173,15 +194,17 @@ def core(place: Place) -> Place | None:
 def taker(place: Place) -> Place | None:
     """The map that takes the members of an object for which there is no place yet, or None."""
     place = content(place)
+    if place.role == "around" or place.shape.kind == "one":
+        return None
     inside, owner = core(place), place.owner if place.role in ("item", "node") else place
     if inside:
         return None if "content" in owner.shape.form else taker(inside)
     if place.role not in ("", "entry") or place.shape.is_key_list():
         return None
-    name = place.shape.open_field if place.shape.ty.kind == "record" else None
+    name = place.shape.open_field if place.shape.kind == "record" else None
     if name is not None:
         return taker(place.at("at", name, place.shape.inner[name], place.value[name]))
-    return place if place.shape.ty.kind == "keyed" else None
+    return place if place.shape.kind == "keyed" else None
 
 
 def _joined(place, form, own):
@@ -225,7 +248,7 @@ def key_order(shape: Shape, value: Any) -> list[str]:
 
 def map_place(place: Place) -> Place:
     """The place of the map itself of a list by key."""
-    if place.shape.ty.kind == "keyed":
+    if place.shape.kind == "keyed":
         return place
     name = place.shape.map_field()
     return place.at("at", name, place.shape.inner[name], place.value[name])
@@ -243,8 +266,25 @@ def key_item(place: Place, inside: Place, shape: Shape, key: str) -> Place:
     return inside.at("mod", key, shape, inside.value[key], role="item", owner=place, name=key)
 
 
+def _with_keys(place):
+    """The members of a part of an item in which its key stands, also further inside."""
+    keys, bare = place.keys, changed(place, keys=None)
+    if place.shape.kind == "one" and place.role == "":
+        return Items(1, lambda number: changed(members(bare)[number], keys=keys.inside("0")))
+    found = dict(members(bare) or {}) if place.role != "around" else {}
+    for name, below in keys.places.items():
+        there = found.get(name)
+        if there is not None and (below is True or there.role):
+            raise NotWritable(place.path, f"the member {name} would come twice")
+        there = there or changed(keys.item, role="key" if below is True else "around")
+        found[name] = there if below is True else changed(there, keys=keys.inside(name))
+    return found
+
+
 def _item_members(place):
     form = place.owner.shape.form
+    if "in" in form or "repeat" in form:
+        return _with_keys(changed(core(place), keys=Keys(place, place.owner.shape.key_places, 0)))
     return _joined(place, form, {form["key"]: changed(place, role="key")})
 
 

@@ -7,13 +7,15 @@ from dataclasses import replace as changed
 from typing import Any, Iterable
 
 from ..construct import replace_steps, set_steps, word_of
+from ..documents import Misfit
 from ..edits import act, paths_of, subtree
 from ..json_text import place_name, pointer
-from .documents import item_of, node_of, nodes_of, to_document
+from .documents import DoesNotFit, item_of, node_of, nodes_of, taken_out, to_document, without_empty
 from .operations import Stop, need_apart, number_in, steps_of, value_at
 from .places import Items, Place, content, key_order, map_place, members, taker, written
-from .text import number_text
+from .text import is_same, number_text, shown
 
+EXACTLY_ONE = "this list has exactly one item"
 BY_PRIMITIVES = "the nodes of a tree come and go by graft, prune, shift and hang, or as children where a form writes them so"
 
 
@@ -55,11 +57,14 @@ def steps_for(root: Place, file: Any, op: dict[str, Any]) -> list[Any]:
 def replaced(place: Place, value: Any, steps: Iterable[Any]) -> list[Any]:
     """Replaces what is at a place of the file."""
     path = tuple(steps)
+    if place.keys:
+        return _replaced_with_keys(place, value, path)
     if place.role in ("", "entry") and "children" in place.shape.form:
         return _new_node(changed(place, role="node", owner=place, name=[]), value, path)
     if place.role in ("", "entry"):
         return list(replace_steps(place.shape.ty, place.value, to_document(place.shape, value, path), place.path))
     if place.role == "key":
+        _need_every_place(place, value, path)
         return _renamed(place, _key(place.owner, value, path), path)
     if place.role == "item":
         key, inside = item_of(place.owner.shape, value, path)
@@ -73,6 +78,58 @@ def replaced(place: Place, value: Any, steps: Iterable[Any]) -> list[Any]:
     if place.role == "kind":
         raise Stop(f"{place_name(path)}: with this kind the rest of the object does not fit", may_wait=True)
     raise Stop(f"{place_name(path)}: {BY_PRIMITIVES}", may_wait=place.role in ("depths", "items"))
+
+
+def _replaced_with_keys(place, value, path):
+    """Replaces a part of an item in which its key stands, which stays the same."""
+    keys = place.keys
+    found, rest = taken_out(keys.places, value)
+    key = written(changed(keys.item, role="key"))
+    if len(found) < count_of(keys.places) or not all(is_same(it, key) for it in found.values()):
+        wanted = f"the key {shown(key)} at every place that has it, or another one at all of them"
+        raise DoesNotFit([Misfit(path[: len(path) - keys.depth], wanted, shown(value))])
+    left_over = {}
+    rest = without_empty(None if place.role == "around" else place.shape, keys.places, rest, (), left_over)
+    if place.role == "around":
+        left_over.update({(it,): value for it, value in rest.items()})
+    if left_over:
+        raise Stop(f"{place_name((*path, *next(iter(left_over))))}: there is no such member", may_wait=True)
+    return replaced(changed(place, keys=None), rest, path) if place.role != "around" else []
+
+
+def count_of(places):
+    """How many places a key has in nested places."""
+    return sum(1 if it is True else count_of(it) for it in places.values())
+
+
+def _need_every_place(place, value, path):
+    """Refuses another key at one place of several."""
+    paths = place.owner.shape.key_paths
+    if len(paths) == 1 or is_same(value, written(place)):
+        return
+    item = next((path[: len(path) - len(it)] for it in paths if list(map(str, path[len(path) - len(it) :])) == it), path)
+    wanted = f"the same key at {', '.join(map(pointer, paths))}"
+    raise DoesNotFit([Misfit(item, wanted, shown(value))])
+
+
+def renaming(root, ops):
+    """The steps by which an item gets another key, where operations replace it at every place that it has. Or None."""
+    places = {}
+    for op in ops:
+        steps = steps_of(op["path"])
+        if op["op"] != "replace" or not is_same(op["value"], ops[0]["value"]):
+            return None
+        try:
+            place = walk(root, steps)
+        except Stop:
+            return None
+        if place.role != "key" or places and next(iter(places.values())).path != place.path:
+            return None
+        places[tuple(map(str, steps))] = place
+    first = next(iter(places), None)
+    if first is None or len(places) < len(places[first].owner.shape.key_paths):
+        return None
+    return _renamed(places[first], _key(places[first].owner, ops[0]["value"], first), first)
 
 
 def _key(owner, value, path):
@@ -144,6 +201,8 @@ def _inserted(parent, inside, number, value, path):
         return _grafted(owner, parent.name, number, count, nodes_of(owner.shape, [value], path[:-1], number))
     if parent.role == "items":
         raise Stop(f"{place_name(path)}: {BY_PRIMITIVES}")
+    if parent.shape.kind == "one":
+        raise Stop(f"{place_name(path)}: {EXACTLY_ONE}", may_wait=True)
     if parent.shape.is_key_list():
         return _inserted_key(parent, number, count, value, path)
     inner = parent.shape.inner["*"]
@@ -238,6 +297,8 @@ def _taken_out(parent, number, count, path):
         return [*shifted, (parent.owner.path, {"prune": parent.name})]
     if parent.role == "items":
         raise Stop(f"{place_name(path)}: {BY_PRIMITIVES}")
+    if parent.shape.kind == "one":
+        raise Stop(f"{place_name(path)}: {EXACTLY_ONE}", may_wait=True)
     if not parent.shape.is_key_list():
         return _gone_item(parent.path, number, count)
     key = key_order(parent.shape, parent.value)[number]

@@ -57,15 +57,6 @@ def read_file(text: str) -> Any:
     return tree
 
 
-def read_file_at(path: str) -> Any:
-    """The tree of a user's file at a path."""
-    with open(path, "rb") as file:
-        try:
-            return read_file(file.read().decode())
-        except ValueError as why:
-            raise NotJson(f"{path}: {why}") from None
-
-
 def need_json(tree: Any) -> None:
     """Raises NotJson where a value of a Python program is not JSON, or has a text that no file may have."""
     left = [tree]

@@ -17,7 +17,7 @@ from .documents import DoesNotFit
 from .forms import Shape
 from .operations import Patching, Stop, operation_fault, steps_of, value_at
 from .places import Place, Written, written
-from .steps import replaced, step, steps_for
+from .steps import renaming, replaced, step, steps_for
 from .text import is_same, need_json
 from .where import resolved
 
@@ -141,6 +141,9 @@ class _Taking:
             except Stop:
                 break
             ops.append(op)
+            renamed = renaming(self.root, ops)
+            if renamed is not None:
+                return self._took(number, ops, renamed)
             if loose and is_same(self.file.tree, written(changed(self.root, value=loose.place.value))):
                 return self._took(number, ops, loose.steps)
             if wrong is None or _may_mend(op, wrong.places[0].path):

@@ -49,7 +49,9 @@ def _is_made(file, patch, wanted):
 
 def _patch(place, edit, at, is_merged):
     """The operations of an edit at a place. If `is_merged`, the members of the place are among others in one object."""
-    if place.shape.ty.kind in SIMPLE and len(edit) > 1:
+    if place.shape.kind == "one":
+        return _patch(changed(place, shape=place.shape.inner["*"]), edit, (*at, 0), False)
+    if place.shape.kind in SIMPLE and len(edit) > 1:
         return _anew(place, changed(place, value=act(place.shape.ty, place.value, edit)), at, is_merged)
     ops = []
     for primitive in edit:
@@ -61,7 +63,7 @@ def _patch(place, edit, at, is_merged):
 
 
 def _primitive(place, after, name, body, at, is_merged):
-    shape, kind = place.shape, place.shape.ty.kind
+    shape, kind = place.shape, place.shape.kind
     if shape.is_untagged():
         return _untagged(place, after, name, body, at, is_merged)
     if shape.is_key_list():
@@ -160,8 +162,8 @@ def _of_key_list(place, after, name, body, at):
     if name == "rename" and body[0] != body[1]:
         number = old.index(body[0])
         old = [*old[:number], body[1], *old[number + 1 :]]
-        key = members(_item(after, body[1]))[shape.form["key"]]
-        ops = [{"op": "replace", "path": pointer((*at, number, shape.form["key"])), "value": written(key)}]
+        key = written(changed(_item(after, body[1]), role="key"))
+        ops = [{"op": "replace", "path": pointer((*at, number, *path)), "value": key} for path in shape.key_paths]
     return ops + _other_keys(old, key_order(shape, after.value), after, at)
 
 

@@ -71,13 +71,15 @@ def _shape_at(shape, role, tree, name):
     """The shape and the role of what has a name or a number in a tree that should have a shape."""
     if shape is None:
         return None, ""
-    form, kind = shape.form, shape.ty.kind
+    form, kind = shape.form, shape.kind
+    if kind == "one":
+        return shape.inner["*"], ""
     if role == "children":
         return shape, "node"
     if role == "items" or kind in ("list", "keyed") and not shape.is_key_list():
         return shape.inner["*"], ""
     if shape.is_key_list():
-        return _beside(shape.content(), form, form["key"], tree, name) if role == "item" else (shape, "item")
+        return _beside(shape.content(), form, form["key"] if "in" not in form else None, tree, name) if role == "item" else (shape, "item")
     if kind == "tree" and "children" in form:
         return (shape, "children") if name == form["children"] else _beside(shape.inner["*"], form, None, tree, name)
     if kind == "tree":
@@ -101,7 +103,7 @@ def _beside(content, form, added, tree, name):
 
 
 def _of_sort(shape, sort):
-    return next((it for it in shape.inner.values() if it.ty.kind != "unit" and sort in sorts(it)), None)
+    return next((it for it in shape.inner.values() if it.kind != "unit" and sort in sorts(it)), None)
 
 
 def _flat_with(shape, name):
@@ -170,4 +172,14 @@ def _nodes(tree, name, steps):
 
 
 def _has(tree, wanted):
-    return isinstance(tree, dict) and all(name in tree and is_equal(tree[name], value) for name, value in wanted.items())
+    return isinstance(tree, dict) and all(_has_member(tree, name, value) for name, value in wanted.items())
+
+
+def _has_member(tree, name, value):
+    """Whether a member has a value. A name that begins with / and is no member is a JSON Pointer to what is further inside."""
+    if name in tree or not name.startswith("/"):
+        return name in tree and is_equal(tree[name], value)
+    try:
+        return is_equal(value_at(tree, steps_of(name)), value)
+    except Stop:
+        return False
