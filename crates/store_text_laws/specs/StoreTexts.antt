@@ -47,8 +47,8 @@ module _ {S K D : Type 0} (source : OfSource.Ghosts S) (sink : OfSink.Ghosts K) 
     pub holds : IfSome (disk.content new.disk) (HoldsPayloads payloads)
     pub stands : stands_for payloads ≡ Ok (state_with form (journals.last (triple_at_first form) steps), None)
 
-  -- The call read its source to the end, and none of its lines is a group. It wrote what `hub` writes for every script
-  -- that has this program part, and as its journal the lines of the source; the status is the same.
+  -- The call read its source to the end. If none of its lines is a group, it wrote what `hub` writes for every script that
+  -- has this program part, and as its journal the lines of the source; the status is the same.
   pub record AnswersAsHub (status : Status) (part : List ℕ) : Type 0 where
     -- the bytes that the call took: all that the source had
     pub bytes : List ℕ
