@@ -133,15 +133,15 @@ module _ {S K D : Type 0} (source : OfSource.Ghosts S) (sink : OfSink.Ghosts K) 
 pub record AddsView {S K D : Type 0} (source : OfSource.Ghosts S) (sink : OfSink.Ghosts K) (disk : OfDisk.Ghosts D)
     (old : S × K) (new : Devices S K D) (before : List (List ℕ)) (state : HubState) : Type 0 where
   pub bytes : List ℕ
-  pub took : Took source old.source new.source bytes
-  pub read : IsRead source old.source new.source
+  pub took : Took source old.0 new.source bytes
+  pub read : IsRead source old.0 new.source
   pub within : length bytes ≤ MOST_BYTES
   pub program : ProgramTree
   pub form : FormTree
   pub accepted : IsAcceptedView state.forms (program_part bytes) program form
   pub hub : HubTree
   pub more : IsViewMore before state program form hub
-  pub given : Gave sink old.sink new.sink (hub_state_text (state_with_view state form hub))
+  pub given : Gave sink old.1 new.sink (hub_state_text (state_with_view state form hub))
   pub kept : IfSome (disk.content new.disk) (HoldsPayloads (before ++ added_payload program ∷ []))
 
 -- an image holds the payloads from before; or these and the payload of a program, and these represent the hub with the
