@@ -50,5 +50,5 @@ GivesHubUsage sink old new status =
 
 -- a source and a disk that the command does not use are as they were
 pub record HubLeavesAlone {S D : Type 0} (o : Option HubOrder) (old new : S × D) : Type 0 where
-  pub unread : hub_reads_source o ≡ false → new.source ≡ old.source
-  pub untouched : hub_uses_disk o ≡ false → new.sink ≡ old.sink
+  pub unread : hub_reads_source o ≡ false → new.0 ≡ old.0
+  pub untouched : hub_uses_disk o ≡ false → new.1 ≡ old.1
