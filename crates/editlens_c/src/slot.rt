@@ -41,7 +41,7 @@ impl Slot {
             return NOT_OPEN;
         }
         self.word = 0;
-        self.kept = None;
+        drop(self.kept.take());
         DONE
     }
 }
