@@ -4,6 +4,7 @@ from __future__ import annotations
 
 import os
 import tempfile
+from typing import Any
 
 from .json_text import NotJson
 from .natural import DoesNotFit, syntax_of, text_and_tree_at, to_document, write_text_of
@@ -12,7 +13,7 @@ from .natural import DoesNotFit, syntax_of, text_and_tree_at, to_document, write
 class KeptFiles:
     """The files of the sides of an open store, by their paths. Raises NotJson where one is not what its side shows."""
 
-    def __init__(self, store, paths):
+    def __init__(self, store: Any, paths: dict[str, str | None]) -> None:
         self.store, self.paths = store, {side: path for side, path in paths.items() if path}
         for side, path in self.paths.items():
             self._need_same(side, path)
@@ -26,7 +27,7 @@ class KeptFiles:
         if document != self.store.documents[side]:
             raise NotJson(f"{path} is not what the {side} side of this store shows; {advice}")
 
-    def write(self):
+    def write(self) -> None:
         """Writes each file whose side has changed. Raises NotJson where one cannot be written; it is as it was then."""
         for side, path in self.paths.items():
             before, tree = text_and_tree_at(path)

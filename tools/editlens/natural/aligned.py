@@ -1,12 +1,16 @@
 """Which item of a list is which of an older one, so that comments stay with what they are about. No value comes of it."""
 
+from __future__ import annotations
+
+from typing import Any
+
 from .text import is_same, sort_of, write_file
 
 MOST_COMPARED = 10_000
 """How many pairs of items are compared by what they have inside."""
 
 
-def aligned(old, new):
+def aligned(old: list[Any], new: list[Any]) -> list[int | None]:
     """For each new item the number of the old one that it is taken to be, or None. No two are the same old one."""
     ends = min(len(old), len(new))
     before = next((it for it in range(ends) if not is_same(old[it], new[it])), ends)

@@ -2,13 +2,14 @@
 
 import importlib
 import sys
+from typing import Any
 
 from ..json_text import NotJson
 
 PLACE = "/usr/lib/python3/dist-packages"
 
 
-def module(name, package, what):
+def module(name: str, package: str, what: str) -> Any:
     """A module by its name. Raises NotJson, which says what to install, where it is not there."""
     try:
         return importlib.import_module(name)

@@ -103,16 +103,17 @@ def wanted(shape: Shape) -> str:
     return {**simple, "keyed": "an object, used as a map", "tree": "an object with exactly the members depths and items"}[kind]
 
 
-def key_name(shape):
+def key_name(shape: Shape) -> str:
     """The member with the key of an item, or its place in it."""
     return shape.form["key"] if "in" not in shape.form else pointer(shape.key_paths[0])
 
 
-def taken_out(places, tree, path=()):
+def taken_out(places: dict[str, Any], tree: Any, path: tuple[Any, ...] = ()) -> tuple[dict[tuple[Any, ...], Any], Any]:
     """The values of the nested places of the key in an item of a list by key, or in a part of it, by their paths; and what is left."""
     if not isinstance(tree, (dict, list)):
         return {}, tree
-    found, left = {}, dict(tree) if isinstance(tree, dict) else list(tree)
+    found: dict[tuple[Any, ...], Any] = {}
+    left: Any = dict(tree) if isinstance(tree, dict) else list(tree)
     for name, below in places.items():
         at = name if isinstance(tree, dict) else int(name) if name == "0" and tree else None
         if at is None or isinstance(tree, dict) and at not in tree:
@@ -125,7 +126,9 @@ def taken_out(places, tree, path=()):
     return found, left
 
 
-def without_empty(shape, places, tree, path=(), left_over=None):
+def without_empty(
+    shape: Shape | None, places: dict[str, Any], tree: Any, path: tuple[Any, ...] = (), left_over: dict[tuple[Any, ...], Any] | None = None
+) -> Any:
     """What is left of an item without the objects that were there for a key alone: those that the shape of the content does not have.
 
     What such an object has else is no member of the content. It is added to `left_over` by its path.

@@ -76,7 +76,7 @@ class Shape:
         return "key" in self.form
 
     @cached_property
-    def key_paths(self) -> list[tuple[str, ...]]:
+    def key_paths(self) -> list[list[str]]:
         """The paths of the members in an item of a list by key that have its key. The first one counts, and the others repeat it."""
         return key_paths(self.form)
 
@@ -243,12 +243,12 @@ def _shape_fault(shape, path):
     return None
 
 
-def key_paths(form):
+def key_paths(form: dict[str, Any]) -> list[list[str]]:
     """The paths of the key that a form of a list by key says, each a list of steps."""
     return [[*read_pointer(form.get("in", "")), form["key"]], *map(read_pointer, form.get("repeat", []))]
 
 
-def field_of(shape, step):
+def field_of(shape: Shape | None, step: str) -> Shape | None:
     """The shape of a field of a record that is not flat, or of the item of a list of one; None where there is no such shape."""
     if shape is None or shape.kind == "one":
         return shape and shape.inner["*"]

@@ -36,7 +36,7 @@ class Keys:
     places: dict
     depth: int
 
-    def inside(self, step):
+    def inside(self, step: str) -> Keys:
         """The same in what is at a step."""
         return Keys(self.item, self.places[step], self.depth + 1)
 

@@ -97,7 +97,7 @@ def _replaced_with_keys(place, value, path):
     return replaced(changed(place, keys=None), rest, path) if place.role != "around" else []
 
 
-def count_of(places):
+def count_of(places: dict[str, Any]) -> int:
     """How many places a key has in nested places."""
     return sum(1 if it is True else count_of(it) for it in places.values())
 
@@ -112,9 +112,9 @@ def _need_every_place(place, value, path):
     raise DoesNotFit([Misfit(item, wanted, shown(value))])
 
 
-def renaming(root, ops):
+def renaming(root: Place, ops: list[dict[str, Any]]) -> list[Any] | None:
     """The steps by which an item gets another key, where operations replace it at every place that it has. Or None."""
-    places = {}
+    places: dict[tuple[str, ...], Place] = {}
     for op in ops:
         steps = steps_of(op["path"])
         if op["op"] != "replace" or not is_same(op["value"], ops[0]["value"]):

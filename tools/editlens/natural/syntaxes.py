@@ -1,5 +1,10 @@
 """The syntaxes of users' files: JSON, YAML and TOML. All of them show a tree of JSON; the ending of a file says which one it has."""
 
+from __future__ import annotations
+
+import os
+from typing import Any
+
 from ..json_text import NotJson
 from .text import read_file, write_file
 from .toml_text import new_toml, read_toml, toml_like
@@ -10,19 +15,19 @@ SYNTAXES = ("json", "yaml", "toml")
 _BY_ENDING = {".yaml": "yaml", ".yml": "yaml", ".toml": "toml"}
 
 
-def syntax_of(path):
+def syntax_of(path: str | os.PathLike[str]) -> str:
     """The syntax of the file at a path, by its ending."""
     return next((it for ending, it in _BY_ENDING.items() if str(path).lower().endswith(ending)), "json")
 
 
-def read_text_of(text, syntax):
+def read_text_of(text: str, syntax: str) -> Any:
     """The tree of the text of a user's file. Raises NotJson."""
     if syntax == "yaml":
         return read_nodes(text.removeprefix("\ufeff")).tree
     return read_toml(text) if syntax == "toml" else read_file(text)
 
 
-def write_text_of(tree, syntax, before=None):
+def write_text_of(tree: Any, syntax: str, before: str | None = None) -> str:
     """The text of a user's file. Where there was one before, its comments and its order stay. Raises NotJson."""
     if syntax == "yaml":
         return new_yaml(tree) if before is None else yaml_like(before, tree)
@@ -31,12 +36,12 @@ def write_text_of(tree, syntax, before=None):
     return write_file(tree) + "\n"
 
 
-def read_file_at(path):
+def read_file_at(path: str | os.PathLike[str]) -> Any:
     """The tree of a user's file at a path, by the syntax of its ending. Raises NotJson."""
     return text_and_tree_at(path)[1]
 
 
-def text_and_tree_at(path):
+def text_and_tree_at(path: str | os.PathLike[str]) -> tuple[str, Any]:
     """The text of a user's file at a path, and its tree. Raises NotJson."""
     with open(path, "rb") as file:
         try:

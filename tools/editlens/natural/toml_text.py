@@ -3,6 +3,10 @@
 Dates, and numbers that JSON writes in another way, are refused with their places. TOML has no null.
 """
 
+from __future__ import annotations
+
+from typing import Any
+
 from ..json_text import NotJson, place_name
 from .aligned import aligned
 from .debian import module
@@ -13,7 +17,7 @@ def _tomlkit():
     return module("tomlkit", "python3-tomlkit", "TOML")
 
 
-def read_toml(text):
+def read_toml(text: str) -> Any:
     """The tree of a text of TOML. Raises NotJson with every place that is refused."""
     return _tree_of(_parsed(text.removeprefix("\ufeff")))
 
@@ -56,12 +60,12 @@ def _read(it, path, faults):
     return number
 
 
-def new_toml(tree):
+def new_toml(tree: Any) -> str:
     """The text of a new file. Raises NotJson where TOML cannot say it."""
     return toml_like("", tree)
 
 
-def toml_like(before, tree):
+def toml_like(before: str, tree: Any) -> str:
     """The text of a file that was there before, changed so that it shows a tree. Raises NotJson."""
     if not isinstance(tree, dict):
         raise NotJson(f"a file of TOML is an object, and not {write_file(tree)[:60]}")

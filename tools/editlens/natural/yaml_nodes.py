@@ -3,9 +3,11 @@
 Debian's python3-ruamel.yaml parses. What YAML has and JSON has not is refused with its place, and so is what programs read in several ways.
 """
 
+from __future__ import annotations
+
 import re
 from dataclasses import dataclass, field
-from typing import Any, Optional
+from typing import Any
 
 from ..json_text import NotJson, place_name
 from .debian import module
@@ -43,22 +45,22 @@ class Node:
     sort: str
     start: int
     end: int
-    style: Optional[str] = None
+    style: str | None = None
     is_flow: bool = False
-    anchor: Optional[str] = None
+    anchor: str | None = None
     tree: Any = None
     last: int = 0
     size: int = 1
     entries: list = field(default_factory=list)
     items: list = field(default_factory=list)
-    target: "Optional[Node]" = None
+    target: Node | None = None
     has_alias: bool = False
 
-    def children(self):
+    def children(self) -> list[Node]:
         """The nodes inside it."""
         return [value for _, value in self.entries] + self.items
 
-    def merges(self):
+    def merges(self) -> list[Node]:
         """The maps that are merged into a map, the first of which counts most."""
         found = [value for key, value in self.entries if is_merge(key)]
         return [_named(it) for one in found for it in (_named(one).items if _named(one).sort == "list" else [one])]
@@ -68,12 +70,12 @@ def _named(node):
     return node.target if node.sort == "alias" else node
 
 
-def is_merge(key):
+def is_merge(key: Node) -> bool:
     """Whether the key of an entry says that other maps are merged."""
     return key.sort == "scalar" and key.tree == MERGE and key.style is None
 
 
-def meaning(text):
+def meaning(text: str) -> Any:
     """What a plain text means. Raises NotJson where programs differ, or JSON has no such value."""
     if text in _SIMPLE:
         return _SIMPLE[text]
@@ -89,7 +91,7 @@ def meaning(text):
     return text
 
 
-def read_nodes(text):
+def read_nodes(text: str) -> Node:
     """The root node of a text of YAML, with the trees of all nodes. Raises NotJson with every place that is refused."""
     yaml = module("ruamel.yaml", "python3-ruamel.yaml", "YAML")
     reader = _Reader(yaml, text)
@@ -235,24 +237,25 @@ class _Reader:
         return made
 
 
-def behind_colon(text, end):
+def behind_colon(text: str, end: int) -> int:
     """The place behind the colon of a key that ends here. A key of a flow map may have none."""
     found = _COLON.match(text, end)
     return found.end() if found else end
 
 
-def merged(trees):
+def merged(trees: list[dict[str, Any]]) -> dict[str, Any]:
     """What maps give together that are merged: the first that has a member counts."""
     return {name: value for tree in reversed(trees) for name, value in tree.items()}
 
 
-def dash_behind(text, start):
+def dash_behind(text: str, start: int) -> int:
     """The place of the first dash of a block list behind a place. Between them are spaces, comments, and perhaps an anchor."""
     while True:
         if text[start] == "#":
             start = text.index("\n", start)
         elif text[start] == "&":
-            start = _SPACE.search(text, start).start()
+            space = _SPACE.search(text, start)
+            start = space.start() if space else len(text)
         elif text[start] == "-":
             return start
         else:

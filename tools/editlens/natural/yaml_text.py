@@ -3,6 +3,10 @@
 Every change is a cut in the old text. In the end the new text is read, and shows the tree that is wanted, or nothing is written.
 """
 
+from __future__ import annotations
+
+from typing import Any
+
 from ..json_text import NotJson
 from .aligned import aligned
 from .text import is_same
@@ -14,14 +18,14 @@ GONE = object()
 ITEM = Layout(2, 2)
 
 
-def new_yaml(tree):
+def new_yaml(tree: Any) -> str:
     """The text of a new file. Raises NotJson where YAML cannot say it so that every program reads the same."""
     text = "\n".join(Layout().lines(tree)) + "\n"
     _need(text, tree)
     return text
 
 
-def yaml_like(before, tree):
+def yaml_like(before: str, tree: Any) -> str:
     """The text of a file that was there before, changed so that it shows a tree. Raises NotJson."""
     mark = "\ufeff" if before.startswith("\ufeff") else ""
     text = before.removeprefix(mark)
