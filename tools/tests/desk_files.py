@@ -139,5 +139,6 @@ def test_the_command_takes_form_files():
     how = {"capture_output": True, "text": True, "timeout": PATIENCE, "check": False}
     ran = subprocess.run([*words[:-2], FILES["right"]], **how)
     assert ran.returncode == 2 and "wanted an array of objects with the member id" in ran.stderr, ran
-    ran = subprocess.run([*words[:1], "--left-form", FORMS["left"], "--replay", os.path.join(TOP, "examples", "tasks.script")], **how)
-    assert ran.returncode == 2 and "a replay shows documents alone" in ran.stderr, ran
+    for word in ("--hub", "--replay"):
+        ran = subprocess.run([*words[:1], "--left-form", FORMS["left"], word, os.path.join(TOP, "examples", "tasks.script")], **how)
+        assert ran.returncode == 2 and "a hub and a replay show documents alone" in ran.stderr, ran

@@ -165,6 +165,17 @@ def bounded():
             assert asked(server, "GET", f"/{server.token}/state")[0] == 200
 
 
+def test_a_connection_that_is_silent_at_first():
+    """A browser on a busy machine opens a connection long before it asks something there, and is answered. One that stays silent is closed."""
+    with served(Desk(RunKeeper(SMALL), "small")) as server:
+        with socket.create_connection(server.server_address, PATIENCE) as slow:
+            time.sleep(10)
+            slow.sendall(f"GET /{server.token}/state HTTP/1.1\r\nHost: {server.hosts[0]}\r\n\r\n".encode())
+            assert slow.recv(12) == b"HTTP/1.1 200"
+        with mock.patch("editlens.desk.server._Handler.timeout", 0.5), socket.create_connection(server.server_address, PATIENCE) as silent:
+            assert silent.recv(1) == b""
+
+
 def is_free(server):
     """Whether one more connection may be open."""
     if not server.free.acquire(blocking=False):

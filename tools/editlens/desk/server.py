@@ -27,8 +27,12 @@ CALLS = ("edit", "patch", "undo", "redo", "load")
 MOST_BODY = 1_200_000
 MOST_STREAMS = 64
 MOST_CONNECTIONS = 256
-STRANGER_PATIENCE = 5
-"""How many seconds a connection that has not shown the token yet may be silent. Later it has PATIENCE seconds."""
+STRANGER_PATIENCE = 30
+"""How many seconds a connection that has not shown the token yet may be silent. Later it has PATIENCE seconds.
+
+A browser on a busy machine is silent for many seconds, too. Where a connection is closed before its first request, Chromium does not ask
+again, and the page stays without that part.
+"""
 PATIENCE = 60
 STREAM_PAUSE = 10
 PAGE = os.path.join(os.path.dirname(os.path.abspath(__file__)), "page")
