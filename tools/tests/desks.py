@@ -166,7 +166,7 @@ def bounded():
 
 
 def test_a_connection_that_is_silent_at_first():
-    """A browser on a busy machine opens a connection long before it asks something there, and is answered. One that stays silent is closed."""
+    """A busy browser opens a connection long before it asks something there, and is answered. One that stays silent is closed."""
     with served(Desk(RunKeeper(SMALL), "small")) as server:
         with socket.create_connection(server.server_address, PATIENCE) as slow:
             time.sleep(10)
