@@ -1,1 +1,9 @@
-mod Planned
+pub mod Planned
+pub mod Kept
+pub mod Stays
+pub mod OnOk
+pub mod RunLinks
+pub mod LinkLists
+pub mod Found
+pub mod Followed
+pub mod Gathered

@@ -1,6 +1,6 @@
 -- Links after plans of the far shape and of the near one.
 use Rattle.std.proofs.Common.{◌≡◌, ℕ, zero, suc, ◌+◌, ◌-◌, ◌≤◌, ◌<◌, Bool, true, false, if◌then◌else◌, List, [], ◌∷◌, ◌++◌, length, map, take, get_or, Option, Some, None, refl, sym, ap, ◌∙◌, arith, subst, ◌⊎◌, inl, inr}
-use Rattle.std.specs.Prelude.{slice_get, slice_index_or, nat_eq, option_map}
+use Rattle.std.specs.Prelude.{IsTrue, slice_get, slice_index_or, nat_eq, option_map}
 use Rattle.std.proofs.lemmas.Option.{slice_get-map, slice_get_within, slice_get-get_or, get_or_from_slice_get}
 use Rattle.std.proofs.lemmas.Bool.{cases_lt}
 use Rattle.std.proofs.lemmas.List.{length-map, take_all}
@@ -8,14 +8,14 @@ use Rattle.std.proofs.lemmas.Bool.Decides.{nat_tests}
 use Rattle.bridge_links.specs.declared.link.Link.{Link}
 use Rattle.bridge_links.specs.declared.link.Link.TheVariants.{Stays, Moved, Gone, Missed}
 use Rattle.bridge_links.specs.Links.{place_of, place_of_some, far_at, link_at, leads_to, placed, came, as_moved, followed, far_planned, put_there, near_planned, fresh_count, content_of, gathered}
-use Rattle.bridge_links.specs.Spans.{AreApart, AreBelow, AreRelated, Spans}
+use Rattle.bridge_links.specs.Spans.{AreApart, AreRelated, Spans, SpansBy, AreFree, AreFresh}
 
 -- ---- where an old place is after a plan
 
 -- the place that a plan has for y, counted from n, leads back to y
-record IsThere (n y z : ℕ) (plan : List Link) : Type 0 where
-  back : far_at plan (z - n) ≡ Some y
-  behind : n ≤ z
+pub record IsThere (n y z : ℕ) (plan : List Link) : Type 0 where
+  pub back : far_at plan (z - n) ≡ Some y
+  pub behind : n ≤ z
 
 leads-back : (b : Bool) (y : ℕ) (l : Link) → leads_to y l ≡ b → b ≡ true → place_of l ≡ Some y
 leads-back true y (Stays k) h t = let e : k ≡ y = grind (arith, nat_tests) in ap Some e
@@ -44,12 +44,12 @@ came-by-test n y z l plan true e deeper g =
     record { back = rw o (leads-back true y l e refl); behind = omega arith }
 came-by-test n y z l plan false e deeper g = next-there n y z l plan (deeper g)
 
-came-is : (n y z : ℕ) (plan : List Link) → place_of (came n y plan) ≡ Some z → IsThere n y z plan
+pub came-is : (n y z : ℕ) (plan : List Link) → place_of (came n y plan) ≡ Some z → IsThere n y z plan
 came-is n y z [] h = absurd cc
 came-is n y z (l ∷ plan) h = came-by-test n y z l plan (leads_to y l) refl (λ g. came-is (n + 1) y z plan g) h
 
 -- a link after a plan of the far shape
-moved-place : (l : Link) → place_of (as_moved l) ≡ place_of l
+pub moved-place : (l : Link) → place_of (as_moved l) ≡ place_of l
 moved-place (Stays y) = refl
 moved-place (Moved y) = refl
 moved-place Gone = refl
@@ -75,10 +75,10 @@ followed-was plan Missed z h = absurd cc
 
 -- ---- theorem: a plan of the far shape
 
-record FarStep (plan ls : List Link) (x z : ℕ) : Type 0 where
-  old : ℕ
-  was : far_at ls x ≡ Some old
-  back : far_at plan z ≡ Some old
+pub record FarStep (plan ls : List Link) (x z : ℕ) : Type 0 where
+  pub old : ℕ
+  pub was : far_at ls x ≡ Some old
+  pub back : far_at plan z ≡ Some old
 
 far-step-of : (plan ls : List Link) (x z : ℕ) (o : Option Link) → slice_get ls x ≡ o → place_of_some (option_map (followed plan) o) ≡ Some z → FarStep plan ls x z
 far-step-of plan ls x z None e h = absurd cc
@@ -86,12 +86,12 @@ far-step-of plan ls x z (Some l) e h =
     let w = followed-was plan l z h in
     record { old = w.old; was = ap (λ o. place_of_some o) e ∙ w.was; back = w.back }
 
-far-step : (plan ls : List Link) (x z : ℕ) → far_at (far_planned plan ls) x ≡ Some z → FarStep plan ls x z
+pub far-step : (plan ls : List Link) (x z : ℕ) → far_at (far_planned plan ls) x ≡ Some z → FarStep plan ls x z
 far-step plan ls x z h =
     let e : far_at (far_planned plan ls) x ≡ place_of_some (option_map (followed plan) (slice_get ls x)) = ap (λ o. place_of_some o) (slice_get-map (followed plan) ls x) in
     far-step-of plan ls x z (slice_get ls x) refl (sym e ∙ h)
 
-one-place : (plan : List Link) (z a b : ℕ) → far_at plan z ≡ Some a → far_at plan z ≡ Some b → a ≡ b
+pub one-place : (plan : List Link) (z a b : ℕ) → far_at plan z ≡ Some a → far_at plan z ≡ Some b → a ≡ b
 one-place plan z a b h k = let e : Some a ≡ Some b = sym h ∙ k in cc
 
 pub far-apart : (plan ls : List Link) → AreApart ls → AreApart (far_planned plan ls)
@@ -136,11 +136,11 @@ far-spans r plan ls fresh s t h =
 -- ---- theorem: a plan of the near shape
 
 -- where a place of the new near shape leads: where its old place did, or to a fresh place
-data NearStep (n : ℕ) (plan ls : List Link) (x y : ℕ) : Type 0 where
+pub data NearStep (n : ℕ) (plan ls : List Link) (x y : ℕ) : Type 0 where
   kept : (k : ℕ) → far_at plan x ≡ Some k → far_at ls k ≡ Some y → NearStep n plan ls x y
   new : far_at plan x ≡ None → x < length plan → y ≡ n + fresh_count (take x plan) → NearStep n plan ls x y
 
-put-place : (l : Link) → place_of (put_there l) ≡ place_of l
+pub put-place : (l : Link) → place_of (put_there l) ≡ place_of l
 put-place (Stays y) = refl
 put-place (Moved y) = refl
 put-place Gone = refl
@@ -156,7 +156,7 @@ next-near : (n m : ℕ) (l : Link) (plan ls : List Link) (x y : ℕ) → m + fre
 next-near n m l plan ls x y e (kept k h g) = kept k h g
 next-near n m l plan ls x y e (new h p g) = new h (omega arith) (g ∙ e)
 
-near-step : (n : ℕ) (plan ls : List Link) (x y : ℕ) → far_at (near_planned n plan ls) x ≡ Some y → NearStep n plan ls x y
+pub near-step : (n : ℕ) (plan ls : List Link) (x y : ℕ) → far_at (near_planned n plan ls) x ≡ Some y → NearStep n plan ls x y
 near-step n [] ls x y h = absurd cc
 near-step n (Stays k ∷ plan) ls zero y h = kept k refl (linked-at ls k y h)
 near-step n (Moved k ∷ plan) ls zero y h = kept k refl (linked-at ls k y (sym (put-place (link_at ls k)) ∙ h))
@@ -179,7 +179,7 @@ fresh-rises (Moved k ∷ plan) (suc x) (suc z) h p q = fresh-rises plan x z h (o
 fresh-rises (Gone ∷ plan) (suc x) (suc z) h p q = let w = fresh-rises plan x z h (omega arith) (omega arith) in omega arith
 fresh-rises (Missed ∷ plan) (suc x) (suc z) h p q = let w = fresh-rises plan x z h (omega arith) (omega arith) in omega arith
 
-fresh-below : (plan : List Link) (x : ℕ) → far_at plan x ≡ None → x < length plan → fresh_count (take x plan) < fresh_count plan
+pub fresh-below : (plan : List Link) (x : ℕ) → far_at plan x ≡ None → x < length plan → fresh_count (take x plan) < fresh_count plan
 fresh-below plan x h p =
     let w = fresh-rises plan x (length plan) h p p in
     subst (λ l. fresh_count (take x plan) < fresh_count l) (take_all (length plan) plan (omega arith)) w
@@ -200,10 +200,6 @@ fresh-apart plan x z h p k q e = by-order (cases_lt x z)
         by-back : (z < x) ⊎ (x ≤ z) → z ≤ x → x ≡ z
         by-back (inl w) o = absurd (above w)
         by-back (inr w) o = other w o
-
--- the n far places that the fresh places of a plan get are not linked to
-abbrev pub AreFree : ℕ → ℕ → List Link → Type 0
-AreFree n c ls = (x y d : ℕ) → far_at ls x ≡ Some y → d < c → y ≡ n + d → ⊥
 
 apart-steps : (n : ℕ) (plan ls : List Link) (x z y : ℕ) → AreApart plan → AreApart ls → AreFree n (fresh_count plan) ls → NearStep n plan ls x y → NearStep n plan ls z y → x ≡ z
 apart-steps n plan ls x z y p h f (kept k a b) (kept j c d) = let same : k ≡ j = h k j y b d in p x z k a (subst (λ o. far_at plan z ≡ Some o) (sym same) c)
@@ -251,10 +247,6 @@ near-spans r n plan ls a b s t h p ab new-are free =
 
 -- ---- theorem: planned twice
 
--- the fresh places of the one plan stand from place n on in the other
-abbrev pub AreFresh : ℕ → List Link → List Link → Type 0
-AreFresh n near far = (d : ℕ) → d < fresh_count near → slice_get far (n + d) ≡ Some Gone
-
 fresh-are-free : (n : ℕ) (near far ls : List Link) → AreFresh n near far → AreFree n (fresh_count near) (far_planned far ls)
 fresh-are-free n near far ls f x y d e p q =
     let w = far-step far ls x y e in
@@ -271,3 +263,10 @@ pub planned-twice : {A B : Type 0} (r : A → B → Type 0) (n : ℕ) (near far 
     → Spans r (near_planned n near (far_planned far ls)) (gathered near a s) (gathered far b t)
 planned-twice r n near far ls a b s t h p f ab =
     near-spans r n near (far_planned far ls) a b s (gathered far b t) (far-spans r far ls b s t h) p ab (fresh-contents n near far b t f) (fresh-are-free n near far ls f)
+
+pub by-test-far : (r : ℕ → ℕ → Bool) (plan ls : List Link) (b : ℕ) (s t : List ℕ) → SpansBy r ls s t → SpansBy r (far_planned plan ls) s (gathered plan b t)
+by-test-far r plan ls b s t h = far-spans (λ a b. IsTrue (r a b)) plan ls b s t h
+
+pub by-test-twice : (r : ℕ → ℕ → Bool) (n : ℕ) (near far ls : List Link) (a b : ℕ) (s t : List ℕ) → SpansBy r ls s t → AreApart near → AreFresh n near far → IsTrue (r a b)
+    → SpansBy r (near_planned n near (far_planned far ls)) (gathered near a s) (gathered far b t)
+by-test-twice r n near far ls a b s t h p f ab = planned-twice (λ a b. IsTrue (r a b)) n near far ls a b s t h p f ab
