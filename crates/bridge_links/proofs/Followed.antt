@@ -13,37 +13,37 @@ module _ (g : ℕ → Link) where
   made-stays : (m z k : ℕ) → ((d : ℕ) → d < m → g (z + d) ≡ Stays (k + d)) → map g (range_with_len z m) ≡ map Stays (range_with_len k m)
   made-stays zero z k h = refl
   made-stays (suc m) z k h =
-    let a : z + 0 ≡ z = omega arith in
-    let b : k + 0 ≡ k = omega arith in
-    let first : g z ≡ Stays k = ap g (sym a) ∙ (h 0 (omega arith) ∙ ap Stays b) in
-    let others : map g (range_with_len (z + 1) m) ≡ map Stays (range_with_len (k + 1) m) =
-    made-stays m (z + 1) (k + 1) (λ d p.
-        let e : z + 1 + d ≡ z + (d + 1) = omega arith in
-        let q : k + (d + 1) ≡ k + 1 + d = omega arith in
-        ap g e ∙ (h (d + 1) (omega arith) ∙ ap Stays q)) in
-    rw (first, others) refl
+      let a : z + 0 ≡ z = omega arith in
+      let b : k + 0 ≡ k = omega arith in
+      let first : g z ≡ Stays k = ap g (sym a) ∙ (h 0 (omega arith) ∙ ap Stays b) in
+      let others : map g (range_with_len (z + 1) m) ≡ map Stays (range_with_len (k + 1) m) =
+      made-stays m (z + 1) (k + 1) (λ d p.
+      let e : z + 1 + d ≡ z + (d + 1) = omega arith in
+      let q : k + (d + 1) ≡ k + 1 + d = omega arith in
+      ap g e ∙ (h (d + 1) (omega arith) ∙ ap Stays q)) in
+      rw (first, others) refl
 
   made-moved : (m z k : ℕ) → ((d : ℕ) → d < m → g (z + d) ≡ Moved (k + d)) → map g (range_with_len z m) ≡ map Moved (range_with_len k m)
   made-moved zero z k h = refl
   made-moved (suc m) z k h =
-    let a : z + 0 ≡ z = omega arith in
-    let b : k + 0 ≡ k = omega arith in
-    let first : g z ≡ Moved k = ap g (sym a) ∙ (h 0 (omega arith) ∙ ap Moved b) in
-    let others : map g (range_with_len (z + 1) m) ≡ map Moved (range_with_len (k + 1) m) =
-    made-moved m (z + 1) (k + 1) (λ d p.
-        let e : z + 1 + d ≡ z + (d + 1) = omega arith in
-        let q : k + (d + 1) ≡ k + 1 + d = omega arith in
-        ap g e ∙ (h (d + 1) (omega arith) ∙ ap Moved q)) in
-    rw (first, others) refl
+      let a : z + 0 ≡ z = omega arith in
+      let b : k + 0 ≡ k = omega arith in
+      let first : g z ≡ Moved k = ap g (sym a) ∙ (h 0 (omega arith) ∙ ap Moved b) in
+      let others : map g (range_with_len (z + 1) m) ≡ map Moved (range_with_len (k + 1) m) =
+      made-moved m (z + 1) (k + 1) (λ d p.
+      let e : z + 1 + d ≡ z + (d + 1) = omega arith in
+      let q : k + (d + 1) ≡ k + 1 + d = omega arith in
+      ap g e ∙ (h (d + 1) (omega arith) ∙ ap Moved q)) in
+      rw (first, others) refl
 
   made-same : (l : Link) (m z : ℕ) → ((d : ℕ) → d < m → g (z + d) ≡ l) → map g (range_with_len z m) ≡ replicate m l
   made-same l zero z h = refl
   made-same l (suc m) z h =
-    let a : z + 0 ≡ z = omega arith in
-    let first : g z ≡ l = ap g (sym a) ∙ h 0 (omega arith) in
-    let others : map g (range_with_len (z + 1) m) ≡ replicate m l =
-    made-same l m (z + 1) (λ d p. let e : z + 1 + d ≡ z + (d + 1) = omega arith in ap g e ∙ h (d + 1) (omega arith)) in
-    rw (first, others) refl
+      let a : z + 0 ≡ z = omega arith in
+      let first : g z ≡ l = ap g (sym a) ∙ h 0 (omega arith) in
+      let others : map g (range_with_len (z + 1) m) ≡ replicate m l =
+      made-same l m (z + 1) (λ d p. let e : z + 1 + d ≡ z + (d + 1) = omega arith in ap g e ∙ h (d + 1) (omega arith)) in
+      rw (first, others) refl
 
   made-run : (l : Link) (m z : ℕ) → ((d : ℕ) → d < m → g (z + d) ≡ ahead d l) → map g (range_with_len z m) ≡ run_links l m
   made-run (Stays k) m z h = made-stays m z k h
@@ -116,11 +116,11 @@ pub followed-more : (plan : List Link) (l now : Link) (k c a m : ℕ) (r : List 
     → map (followed plan) (take (a + m) r) ≡ map (followed plan) (take a r) ++ run_links (moved_as l now) m
 followed-more plan l now k c a m r e h p f =
     subst (λ r. map (followed plan) (take (a + m) r) ≡ map (followed plan) (take a r) ++ run_links (moved_as l now) m) e (
-      ap (λ ls. map (followed plan) ls) (take-more (run_links l c) a m)
-      ∙ (map-append (followed plan) (take a (run_links l c)) (take m (drop a (run_links l c)))
-          ∙ ap (λ ls. map (followed plan) (take a (run_links l c)) ++ ls) (
-            ap (λ ls. map (followed plan) ls) (sym (part-run l c a m p))
-            ∙ (followed-run plan (ahead a l) now (k + a) m (place-ahead l k a h) f ∙ ap (λ o. run_links o m) (as-ahead l now a))))
+    ap (λ ls. map (followed plan) ls) (take-more (run_links l c) a m)
+    ∙ (map-append (followed plan) (take a (run_links l c)) (take m (drop a (run_links l c)))
+    ∙ ap (λ ls. map (followed plan) (take a (run_links l c)) ++ ls) (
+    ap (λ ls. map (followed plan) ls) (sym (part-run l c a m p))
+    ∙ (followed-run plan (ahead a l) now (k + a) m (place-ahead l k a h) f ∙ ap (λ o. run_links o m) (as-ahead l now a))))
     )
 
 pub followed-next : (plan : List Link) (l now : Link) (k c a m : ℕ) (r part old links : List Link) → run_links l c ≡ r → place_of l ≡ Some k → a + m ≤ c → ((d : ℕ) → d < m → came 0 (k + a + d) plan ≡ ahead d now)
@@ -139,7 +139,7 @@ pub runs-followed : (plan links more : List Link) (rs : List (List Link)) (i : �
 runs-followed plan links more rs i r p e m h =
     ap (λ ls. ls ++ map (followed plan) (all_links (drop (i + 1) rs))) m
     ∙ (append_assoc links (map (followed plan) r) (map (followed plan) (all_links (drop (i + 1) rs)))
-        ∙ (ap (λ ls. links ++ ls) (sym (ap (λ ls. map (followed plan) ls) (runs-at rs i r p e) ∙ map-append (followed plan) r (all_links (drop (i + 1) rs)))) ∙ h))
+    ∙ (ap (λ ls. links ++ ls) (sym (ap (λ ls. map (followed plan) ls) (runs-at rs i r p e) ∙ map-append (followed plan) r (all_links (drop (i + 1) rs)))) ∙ h))
 
 pub all-followed : (plan links : List Link) (rs : List (List Link)) (i : ℕ) → length rs ≤ i → links ++ map (followed plan) (all_links (drop i rs)) ≡ map (followed plan) (all_links rs) → links ≡ map (followed plan) (all_links rs)
 all-followed plan links rs i p h = sym (append-nil links) ∙ (ap (λ ls. links ++ map (followed plan) (all_links ls)) (sym (drop_all i rs p)) ∙ h)

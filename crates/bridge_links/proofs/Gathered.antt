@@ -71,8 +71,8 @@ left-here m links part whole rs i s c n r p e q k o g h =
     let others = part_at (all_links (drop (i + 1) rs)) 0 (n - c) in
     ap (λ ps. (links ++ ps) ++ part_put m others) g
     ∙ (append_assoc links (part_put m (take c (drop s r))) (part_put m others)
-        ∙ (ap (λ ps. links ++ ps) (sym (map-append (put_as m) (take c (drop s r)) others))
-            ∙ (ap (λ ps. links ++ part_put m ps) (sym (ap (λ ls. part_at ls s n) (runs-at rs i r p e) ∙ part-around r (all_links (drop (i + 1) rs)) s c n q k o)) ∙ h)))
+    ∙ (ap (λ ps. links ++ ps) (sym (map-append (put_as m) (take c (drop s r)) others))
+    ∙ (ap (λ ps. links ++ part_put m ps) (sym (ap (λ ls. part_at ls s n) (runs-at rs i r p e) ∙ part-around r (all_links (drop (i + 1) rs)) s c n q k o)) ∙ h)))
 
 -- where a part ends: at its own end, or with the run
 pub one-of : (c n s l m : ℕ) → s < l → l ≡ m → (c ≡ n) ⊎ (c ≡ l - s) → (c ≡ n) ⊎ (s + c ≡ m)
@@ -116,13 +116,13 @@ gets-gone : (new old ls r : List Link) (f n next : ℕ) → run_links Gone n ≡
 gets-gone new old ls r f n next e q h plan =
     ap (λ ps. ps ++ near_planned next plan ls) h
     ∙ (append_assoc old (run_links (Stays f) n) (near_planned next plan ls)
-        ∙ (ap (λ i. old ++ (run_links (Stays f) n ++ near_planned i plan ls)) q ∙ ap (λ ps. old ++ ps) (sym (ap (λ r. near_planned f (r ++ plan) ls) (sym e) ∙ near-gone f n plan ls))))
+    ∙ (ap (λ i. old ++ (run_links (Stays f) n ++ near_planned i plan ls)) q ∙ ap (λ ps. old ++ ps) (sym (ap (λ r. near_planned f (r ++ plan) ls) (sym e) ∙ near-gone f n plan ls))))
 
 gets-missed : (new old ls r : List Link) (f n next : ℕ) → run_links Missed n ≡ r → next ≡ f + n → new ≡ old ++ run_links (Stays f) n → GetsRun new old next f r ls
 gets-missed new old ls r f n next e q h plan =
     ap (λ ps. ps ++ near_planned next plan ls) h
     ∙ (append_assoc old (run_links (Stays f) n) (near_planned next plan ls)
-        ∙ (ap (λ i. old ++ (run_links (Stays f) n ++ near_planned i plan ls)) q ∙ ap (λ ps. old ++ ps) (sym (ap (λ r. near_planned f (r ++ plan) ls) (sym e) ∙ near-missed f n plan ls))))
+    ∙ (ap (λ i. old ++ (run_links (Stays f) n ++ near_planned i plan ls)) q ∙ ap (λ ps. old ++ ps) (sym (ap (λ r. near_planned f (r ++ plan) ls) (sym e) ∙ near-missed f n plan ls))))
 
 pub gets-old : (l : Link) (new old ls r : List Link) (f k n : ℕ) → run_links l n ≡ r → place_of l ≡ Some k → new ≡ old ++ part_put (is_moved l) (part_at ls k n) → GetsRun new old f f r ls
 gets-old (Stays j) new old ls r f k n e h g = let q : k ≡ j = cc in gets-stays new old ls r f j n e (g ∙ ap (λ i. old ++ part_put false (part_at ls i n)) q)

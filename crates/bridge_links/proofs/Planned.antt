@@ -189,10 +189,13 @@ fresh-apart plan x z h p k q e = by-order (cases_lt x z)
   where
     below : x < z → ⊥
     below o = let w = fresh-rises plan x z h p o in omega arith
+
     above : z < x → ⊥
     above o = let w = fresh-rises plan z x k q o in omega arith
+
     other : x ≤ z → (z ≤ x) → x ≡ z
     other a b = omega arith
+
     by-order : (x < z) ⊎ (z ≤ x) → x ≡ z
     by-order (inl o) = absurd (below o)
     by-order (inr o) = by-back (cases_lt z x) o

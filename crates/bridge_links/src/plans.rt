@@ -188,7 +188,6 @@ impl Links {
     }
 }
 
-
 // The smaller one of two numbers.
 fn least(left: u64, right: u64) -> u64
     requires left { 0 < left }
@@ -221,7 +220,12 @@ fn push_followed(links: &mut Links, run: &LinkRun, plan: &Links) -> Result<(), A
 
 // Puts behind links those that the places of a run of a plan of the near shape have, where a fresh place has the next
 // far place from one on. Gives the far place after those.
-fn push_gathered(links: &mut Links, run: &LinkRun, old: &Links, fresh: u64) -> Result<u64, AllocError>
+fn push_gathered(
+    links: &mut Links,
+    run: &LinkRun,
+    old: &Links,
+    fresh: u64,
+) -> Result<u64, AllocError>
     ensures { IfOk result (λ next. GetsRun links.new links.old next fresh run.now old.now) }
 {
     if let Some(place) = run.first.place() {
@@ -236,7 +240,13 @@ fn push_gathered(links: &mut Links, run: &LinkRun, old: &Links, fresh: u64) -> R
 }
 
 // Puts behind links those of other places, which follow one another from a place on; they may have been moved there.
-fn push_part(links: &mut Links, old: &Links, place: u64, count: u64, moved: bool) -> Result<(), AllocError>
+fn push_part(
+    links: &mut Links,
+    old: &Links,
+    place: u64,
+    count: u64,
+    moved: bool,
+) -> Result<(), AllocError>
     ensures { OnOk result (links.new ≡ links.old ++ part_put moved (part_at old.now place count)) }
 {
     let runs = old.runs();

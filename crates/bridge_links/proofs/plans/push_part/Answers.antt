@@ -13,11 +13,11 @@ loop-i-preserved c =
     let whole = c.args.links.now ++ part_put c.args.moved (part_at c.args.old.now c.args.place c.args.count) in
     let len = c.len.ensures in
     elim c.if-skip-len.branch [
-      then-skip-len w ↦
+      | then-skip-len w ↦
           let e = w.len-then-skip-len.ensures in
           let h = left-behind c.args.moved c.loop-i.links whole rs c.loop-i.i c.loop-i.skip c.loop-i.left r p.0 p.1 (omega (arith, len, w.if-skip-len.true)) c.loop-i.invariant in
-          rw (w.links-is, w.skip-is, w.left-is, e) h |
-      else-skip-len+in_ok-push w ↦
+          rw (w.links-is, w.skip-is, w.left-is, e) h
+      | else-skip-len+in_ok-push w ↦
           let e = w.len-else-skip-len.ensures in
           let below : c.loop-i.skip < w.len-else-skip-len.result = omega (arith, len, e, w.if-skip-len.false) in
           let c0 = w.smaller-size.result in
