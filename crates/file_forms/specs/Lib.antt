@@ -1,0 +1,5 @@
+pub mod Forms
+pub mod Orders
+pub mod Slots
+pub mod Fitting
+pub mod FileValues
