@@ -37,15 +37,27 @@ fn nested(alloc: Global, levels: usize) -> Result<Vec<u8>, Fail> {
 
 #[test]
 fn numbers_keep_their_letters(rt: HostRuntime) -> Result<(), Fail> {
-    let bytes = rewritten(rt.alloc(), " [1.50, -0 ,1e400,\t100000000000000000000000]\n")?;
-    assert_eq!(rt; bytes.as_slice(), b"[1.50,-0,1e400,100000000000000000000000]" as &[u8]);
+    let bytes = rewritten(
+        rt.alloc(),
+        " [1.50, -0 ,1e400,\t100000000000000000000000]\n",
+    )?;
+    assert_eq!(rt;
+        bytes.as_slice(),
+        b"[1.50,-0,1e400,100000000000000000000000]" as &[u8]
+    );
     Ok(())
 }
 
 #[test]
 fn members_keep_their_order(rt: HostRuntime) -> Result<(), Fail> {
-    let bytes = rewritten(rt.alloc(), "{\"b\":1, \"a\" : {\"d\":null,\"c\":[true,false]}}")?;
-    assert_eq!(rt; bytes.as_slice(), b"{\"b\":1,\"a\":{\"d\":null,\"c\":[true,false]}}" as &[u8]);
+    let bytes = rewritten(
+        rt.alloc(),
+        "{\"b\":1, \"a\" : {\"d\":null,\"c\":[true,false]}}",
+    )?;
+    assert_eq!(rt;
+        bytes.as_slice(),
+        b"{\"b\":1,\"a\":{\"d\":null,\"c\":[true,false]}}" as &[u8]
+    );
     Ok(())
 }
 
