@@ -8,3 +8,4 @@ pub mod ReadWrites
 pub mod ReadAlike
 pub mod WrittenTypes
 pub mod ComesBack
+pub mod FormNames

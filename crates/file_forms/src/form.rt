@@ -1,5 +1,10 @@
 //! Forms: how a file has the documents of a type.
 
+ghost use Rattle.std.specs.Prelude.{◌≡◌};
+ghost use Rattle.file_forms.specs.Forms.{form_tree};
+ghost use Rattle.file_forms.specs.Fitting.{is_fit};
+
+use crate::fit;
 use crate::literal::Literal;
 use texts::{Name, Names, Str};
 
@@ -29,4 +34,13 @@ pub enum FileForm {
     Items(Box<FileForm>),
     /// A keyed map as an object.
     Map(Box<FileForm>),
+}
+
+impl FileForm {
+    /// Whether the form is fit, in all its parts. See docs/MEANING.md.
+    pub fn is_fit(&self) -> bool
+        ensures { result ≡ is_fit (form_tree self.now) }
+    {
+        fit::is_fit(self)
+    }
 }

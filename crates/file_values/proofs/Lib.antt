@@ -1,0 +1,5 @@
+pub mod BySlots
+pub mod IntParses
+pub mod Sorted
+pub mod ReadLoops
+pub mod Heads
