@@ -1,11 +1,11 @@
 //! The condition on forms.
 
-ghost use Rattle.std.specs.Prelude.{◌≡◌, ◌+◌, ◌≤◌, length};
+ghost use Rattle.std.specs.Prelude.{◌≡◌};
 ghost use Rattle.texts.specs.Keys.{is_rising, has_name};
 ghost use Rattle.doc_values.specs.Types.{are_distinct};
 ghost use Rattle.file_forms.specs.Forms.{form_tree, forms_view, form_names};
 ghost use Rattle.file_forms.specs.Signs.{sign_view};
-ghost use Rattle.file_forms.specs.Slots.{sign, sign_meets, sign_meets_any, meets_any, some_meets_any, are_told_apart};
+ghost use Rattle.file_forms.specs.Slots.{sign_meets, sign_meets_any, meets_any, some_meets_any, are_told_apart};
 ghost use Rattle.file_forms.specs.Fitting.{is_fit, are_fit};
 
 use crate::form::FileForm;

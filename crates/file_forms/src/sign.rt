@@ -10,6 +10,7 @@ use crate::literal::Literal;
 use crate::sort::Sort;
 
 // A form writes one literal, or trees of one sort.
+#[derive(Clone, Copy)]
 pub(crate) enum Sign<'a> {
     Exactly(&'a Literal),
     AnyOf(Sort),
