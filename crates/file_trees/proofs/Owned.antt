@@ -1,7 +1,7 @@
 -- Loops that go from the items of one tree to those of another.
 use Rattle.std.proofs.Math.Seq.{take-suc}
 use Rattle.std.proofs.lemmas.List.{map-append}
-use Rattle.std.proofs.Common.{◌≡◌, ℕ, ◌+◌, add-one, ◌<◌, List, [], ◌∷◌, ◌++◌, map, take, length, get_or, refl, ap, ◌∙◌, rules, Vec, Global}
+use Rattle.std.proofs.Common.{◌≡◌, ℕ, ◌+◌, add-one, ◌<◌, List, [], ◌∷◌, ◌++◌, map, take, length, get_or, refl, ap, rules, Vec, Global}
 use Rattle.std.specs.Borrow.{Bor}
 use Rattle.json.specs.Json.{Json, array, object, member}
 use Rattle.json.specs.Value.{value_view, members_view as value_members}
