@@ -1,6 +1,6 @@
 //! Each call that allocates, once.
 
-use file_trees::{FileFault, FileTree, read_file, write_file};
+use file_trees::{FileFault, read_file, write_file};
 use std::alloc::Global;
 use std::test::Fail;
 
@@ -17,7 +17,7 @@ fn refusal(alloc: Global, bytes: &[u8]) -> Result<FileFault, Fail> {
     match read_file(alloc, bytes) {
         Ok(tree) => {
             drop(tree);
-            Err("the bytes are a file")?
+            return Err("the bytes are a file")?;
         }
         Err(fault) => Ok(fault),
     }
@@ -43,7 +43,7 @@ fn numbers_keep_their_letters(rt: HostRuntime) -> Result<(), Fail> {
     )?;
     assert_eq!(rt;
         bytes.as_slice(),
-        b"[1.50,-0,1e400,100000000000000000000000]" as &[u8]
+        b"[1.50,-0,1e400,100000000000000000000000]".as_slice()
     );
     Ok(())
 }
@@ -56,7 +56,7 @@ fn members_keep_their_order(rt: HostRuntime) -> Result<(), Fail> {
     )?;
     assert_eq!(rt;
         bytes.as_slice(),
-        b"{\"b\":1,\"a\":{\"d\":null,\"c\":[true,false]}}" as &[u8]
+        b"{\"b\":1,\"a\":{\"d\":null,\"c\":[true,false]}}".as_slice()
     );
     Ok(())
 }
@@ -64,7 +64,7 @@ fn members_keep_their_order(rt: HostRuntime) -> Result<(), Fail> {
 #[test]
 fn escapes_are_the_shortest(rt: HostRuntime) -> Result<(), Fail> {
     let bytes = rewritten(rt.alloc(), "[\"\\u0061\\/\\n\\u0001\",\"\"]")?;
-    assert_eq!(rt; bytes.as_slice(), b"[\"a/\\n\\u0001\",\"\"]" as &[u8]);
+    assert_eq!(rt; bytes.as_slice(), b"[\"a/\\n\\u0001\",\"\"]".as_slice());
     Ok(())
 }
 
@@ -86,6 +86,7 @@ fn levels(rt: HostRuntime) -> Result<(), Fail> {
     let tree = read_file(alloc, allowed.as_slice())?;
     let again = write_file(alloc, &tree);
     drop(tree);
-    assert_eq!(rt; again?.as_slice(), allowed.as_slice());
+    let bytes = again?;
+    assert_eq!(rt; bytes.as_slice(), allowed.as_slice());
     Ok(())
 }
