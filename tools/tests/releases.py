@@ -117,7 +117,7 @@ def test_the_package_for_debian():
         with open(os.path.join(root, "usr/share/doc/editlens/PROVED"), encoding="utf-8") as file:
             assert "not proved by this build" in file.read()
         assert os.path.exists(os.path.join(root, "usr/share/bash-completion/completions/edithub"))
-        assert field(path, "Recommends") == "python3-aiohttp, python3-asyncpg"
+        assert field(path, "Recommends") == "python3-aiohttp, python3-asyncpg, python3-ruamel.yaml, python3-tomlkit"
         assert all(os.access(os.path.join(root, f"usr/bin/editlens-{name}"), os.X_OK) for name in OF_SERVICE)
 
 
