@@ -1,11 +1,11 @@
-"""The map of the crates: a picture with every crate on its level, and a line for each that says what it is. dev/MAP.md has it."""
+"""The map of the crates: a picture with every crate on its level, and a line for each that says what it is. docs/ARCHITECTURE.md has it."""
 
 import os
 
 from . import TOP, read_lines
 from .crates import group_name, head_of, levels, reached, read_crates
 
-PAGE = os.path.join("dev", "MAP.md")
+PAGE = os.path.join("docs", "ARCHITECTURE.md")
 BEGIN, END = "<!-- Written by dev/map from crates.txt and the heads of the crates. -->", "<!-- The end of what dev/map writes. -->"
 WIDTH = 100
 LAWS = "Laws"
@@ -99,7 +99,7 @@ def page_with_map(top=TOP):
     before, begin, rest = page.partition(BEGIN)
     _, end, after = rest.partition(END)
     if not begin or not end:
-        raise NoPlace("dev/MAP.md has not the two lines between which dev/map writes")
+        raise NoPlace("docs/ARCHITECTURE.md has not the two lines between which dev/map writes")
     return f"{before}{BEGIN}\n\n{the_map(read_crates(top), top)}\n{END}{after}"
 
 

@@ -217,8 +217,8 @@ def test_the_map_of_a_small_repository():
 
 
 def test_the_map_is_up_to_date():
-    page = read("dev/MAP.md")
-    assert page == page_with_map() and not list(faults_of_map(read_crates())), "dev/MAP.md has another map: run dev/map --write"
+    page = read("docs/ARCHITECTURE.md")
+    assert page == page_with_map() and not list(faults_of_map(read_crates())), "docs/ARCHITECTURE.md has another map: run dev/map --write"
 
 
 def test_the_case_files_are_what_their_writers_make():
