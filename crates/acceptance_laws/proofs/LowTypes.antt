@@ -99,7 +99,7 @@ mutual
   low_types ds s low (Term.inv_of l) h w = (sides ds s (Term.inv_of l) h, low_types ds s low l (none_both (lens_failure ds l) _ h).0 w)
   low_types ds s low (Term.named_lens n) h w = named_low ds n low
 
-  low_rows : (ds : Definitions) → are_sound ds ≡ true → AllByRecursion (λ d. HasLowMeaning d.1) ds → (rows : Term.RowTrees)
+  low_rows : (ds : Definitions) → are_sound ds ≡ true → AllByRecursion (λ d. HasLowMeaning d.1) ds → (rows : Term.TermRows)
       → rows_failure ds rows ≡ None → rows_written ds rows ≤ GREATEST_HEIGHT → RowsHaveLowTypes (expanded_rows ds rows)
   low_rows ds s low Term.no_rows h w = tt
   low_rows ds s low (Term.both a b l rows) h w =
@@ -116,7 +116,7 @@ mutual
     low_rows ds s low rows (none_both (type_failure t) (rows_failure ds rows) h).1 (second_max (height (expanded_type ds t)) (rows_written ds rows) GREATEST_HEIGHT w),
   )
 
-  low_arms : (ds : Definitions) → are_sound ds ≡ true → AllByRecursion (λ d. HasLowMeaning d.1) ds → (arms : Term.ArmTrees)
+  low_arms : (ds : Definitions) → are_sound ds ≡ true → AllByRecursion (λ d. HasLowMeaning d.1) ds → (arms : Term.TermArms)
       → arms_failure ds arms ≡ None → arms_written ds arms ≤ GREATEST_HEIGHT → ArmsHaveLowTypes (expanded_arms ds arms)
   low_arms ds s low Term.no_arms h w = tt
   low_arms ds s low (Term.more_arms a b l arms) h w =
@@ -151,13 +151,13 @@ mutual
   written_low ds (Term.inv_of l) low = written_low ds l low.1
   written_low ds (Term.named_lens n) low = omega arith
 
-  rows_low : (ds : Definitions) (rows : Term.RowTrees) → RowsHaveLowTypes (expanded_rows ds rows) → rows_written ds rows ≤ GREATEST_HEIGHT
+  rows_low : (ds : Definitions) (rows : Term.TermRows) → RowsHaveLowTypes (expanded_rows ds rows) → rows_written ds rows ≤ GREATEST_HEIGHT
   rows_low ds Term.no_rows low = omega arith
   rows_low ds (Term.both a b l rows) low = two_max (written_height ds l) (rows_written ds rows) GREATEST_HEIGHT (written_low ds l low.0) (rows_low ds rows low.1)
   rows_low ds (Term.only_left a t rows) low = two_max (height (expanded_type ds t)) (rows_written ds rows) GREATEST_HEIGHT low.0 (rows_low ds rows low.1)
   rows_low ds (Term.only_right b t rows) low = two_max (height (expanded_type ds t)) (rows_written ds rows) GREATEST_HEIGHT low.0 (rows_low ds rows low.1)
 
-  written_arms_low : (ds : Definitions) (arms : Term.ArmTrees) → ArmsHaveLowTypes (expanded_arms ds arms) → arms_written ds arms ≤ GREATEST_HEIGHT
+  written_arms_low : (ds : Definitions) (arms : Term.TermArms) → ArmsHaveLowTypes (expanded_arms ds arms) → arms_written ds arms ≤ GREATEST_HEIGHT
   written_arms_low ds Term.no_arms low = omega arith
   written_arms_low ds (Term.more_arms a b l arms) low =
       two_max (written_height ds l) (arms_written ds arms) GREATEST_HEIGHT (written_low ds l low.0) (written_arms_low ds arms low.1)

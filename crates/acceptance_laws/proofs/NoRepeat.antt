@@ -103,7 +103,7 @@ right-members : (ms : List (List ℕ)) → on Right (sided_members ms) ≡ []
 right-members [] = refl
 right-members (m ∷ ms) = right-members ms
 
-right-fields : (fs : Term.FieldTrees) → on Right (field_names fs) ≡ []
+right-fields : (fs : Term.TermFields) → on Right (field_names fs) ≡ []
 right-fields Term.no_fields = refl
 right-fields (Term.more_fields n t fs) = right-fields fs
 
@@ -112,16 +112,16 @@ right-fields (Term.more_fields n t fs) = right-fields fs
 pub members_new : (ms : List (List ℕ)) → are_distinct ms ≡ true → first_repeat (sided_members ms) ≡ None
 members_new ms h = no_repeat (sided_members ms) ms [] (on-members ms) (right-members ms) h refl
 
-pub fields_new : (ds : Definitions) (fs : Term.FieldTrees) → are_distinct (names_of (expanded_fields ds fs)) ≡ true → first_repeat (field_names fs) ≡ None
+pub fields_new : (ds : Definitions) (fs : Term.TermFields) → are_distinct (names_of (expanded_fields ds fs)) ≡ true → first_repeat (field_names fs) ≡ None
 fields_new ds fs h = no_repeat (field_names fs) (names_of (expanded_fields ds fs)) [] (on-fields ds fs) (right-fields fs) h refl
 
 pub pairs_new : (ps : List (List ℕ × List ℕ)) → are_distinct (lefts ps) ≡ true → are_distinct (rights ps) ≡ true → first_repeat (pair_names ps) ≡ None
 pairs_new ps l r = no_repeat (pair_names ps) (lefts ps) (rights ps) (on-lefts ps) (on-rights ps) l r
 
-pub rows_new : (ds : Definitions) (rows : Term.RowTrees) → are_distinct (left_names (expanded_rows ds rows)) ≡ true → are_distinct (right_names (expanded_rows ds rows)) ≡ true
+pub rows_new : (ds : Definitions) (rows : Term.TermRows) → are_distinct (left_names (expanded_rows ds rows)) ≡ true → are_distinct (right_names (expanded_rows ds rows)) ≡ true
     → first_repeat (row_names rows) ≡ None
 rows_new ds rows l r = no_repeat (row_names rows) (left_names (expanded_rows ds rows)) (right_names (expanded_rows ds rows)) (on-left_names ds rows) (on-right_names ds rows) l r
 
-pub arms_new : (ds : Definitions) (arms : Term.ArmTrees) → are_distinct (left_arms (expanded_arms ds arms)) ≡ true → are_distinct (right_arms (expanded_arms ds arms)) ≡ true
+pub arms_new : (ds : Definitions) (arms : Term.TermArms) → are_distinct (left_arms (expanded_arms ds arms)) ≡ true → are_distinct (right_arms (expanded_arms ds arms)) ≡ true
     → first_repeat (arm_names arms) ≡ None
 arms_new ds arms l r = no_repeat (arm_names arms) (left_arms (expanded_arms ds arms)) (right_arms (expanded_arms ds arms)) (on-left_arms ds arms) (on-right_arms ds arms) l r

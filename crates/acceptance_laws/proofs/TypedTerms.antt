@@ -136,7 +136,7 @@ mutual
   type_none ds (Term.tree t) h = type_none ds t h
   type_none ds (Term.named n) h = refl
 
-  fields_none : (ds : Definitions) (fs : Term.FieldTrees) → are_well_formed (expanded_fields ds fs) ≡ true → fields_failure fs ≡ None
+  fields_none : (ds : Definitions) (fs : Term.TermFields) → are_well_formed (expanded_fields ds fs) ≡ true → fields_failure fs ≡ None
   fields_none ds Term.no_fields h = refl
   fields_none ds (Term.more_fields n t fs) h =
       none_or (type_failure t) (fields_failure fs)
@@ -241,7 +241,7 @@ mutual
   lens_none ds (Term.inv_of l) h low = none_or (lens_failure ds l) _ (lens_none ds l h low.1) (sides_none (expanded_form ds (Term.inv_of l)) low.0)
   lens_none ds (Term.named_lens n) h low = refl
 
-  rows_none : (ds : Definitions) (rows : Term.RowTrees) → are_typed_rows (expanded_rows ds rows) ≡ true → RowsHaveLowTypes (expanded_rows ds rows) → rows_failure ds rows ≡ None
+  rows_none : (ds : Definitions) (rows : Term.TermRows) → are_typed_rows (expanded_rows ds rows) ≡ true → RowsHaveLowTypes (expanded_rows ds rows) → rows_failure ds rows ≡ None
   rows_none ds Term.no_rows h low = refl
   rows_none ds (Term.both a b l rows) h low =
       let f = expanded_form ds l in
@@ -259,7 +259,7 @@ mutual
       none_or (type_failure t) (rows_failure ds rows) (type_none ds t (first_and (is_well_formed u) (are_typed_rows rs) h))
       (rows_none ds rows (second_and (is_well_formed u) (are_typed_rows rs) h) low.1)
 
-  arms_none : (ds : Definitions) (arms : Term.ArmTrees) → are_typed_arms (expanded_arms ds arms) ≡ true → ArmsHaveLowTypes (expanded_arms ds arms) → arms_failure ds arms ≡ None
+  arms_none : (ds : Definitions) (arms : Term.TermArms) → are_typed_arms (expanded_arms ds arms) ≡ true → ArmsHaveLowTypes (expanded_arms ds arms) → arms_failure ds arms ≡ None
   arms_none ds Term.no_arms h low = refl
   arms_none ds (Term.more_arms a b l arms) h low =
       let f = expanded_form ds l in

@@ -38,7 +38,7 @@ module _ {K : Type 0} (sink : OfSink.Ghosts K) (old new : K) where
   GaveFront text = AppendsFront (sink.held old) (sink.held new) text
 
   abbrev pub SinkFailed : Type 0
-  SinkFailed = causes.SinkFailed sink.faults sink.empty_takes sink.room sink.held old new
+  SinkFailed = causes.SinkCallFailed sink.faults sink.empty_takes sink.room sink.held old new
 
 module _ {D : Type 0} (disk : OfDisk.Ghosts D) (old new : D) where
   abbrev pub DiskFailed : Type 0

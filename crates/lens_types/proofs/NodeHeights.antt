@@ -75,7 +75,7 @@ partition_heights ds (f ∷ fs) h k m e l r = some_partition _ _ _ h k e l r
 max_none : (n : ℕ) → max 0 n ≡ n
 max_none n = omega arith
 
-row_left : (ds : Definitions) (row : Term.RowTree) (rows : Term.RowTrees) (h : SideHeights) → HasFieldHeights ds row h
+row_left : (ds : Definitions) (row : Term.RowTree) (rows : Term.TermRows) (h : SideHeights) → HasFieldHeights ds row h
     → max h.left (capped (highest (left_fields (expanded_rows ds rows)))) ≡ capped (highest (left_fields (expanded_rows ds (Term.with_row row rows))))
 row_left ds (Term.row_both a b l) rows h e =
     ap (λ n. max n (capped (highest (left_fields (expanded_rows ds rows))))) e.0
@@ -88,7 +88,7 @@ row_left ds (Term.row_left a t) rows h e =
 row_left ds (Term.row_right b t) rows h e =
     ap (λ n. max n (capped (highest (left_fields (expanded_rows ds rows))))) e.0 ∙ max_none (capped (highest (left_fields (expanded_rows ds rows))))
 
-row_right : (ds : Definitions) (row : Term.RowTree) (rows : Term.RowTrees) (h : SideHeights) → HasFieldHeights ds row h
+row_right : (ds : Definitions) (row : Term.RowTree) (rows : Term.TermRows) (h : SideHeights) → HasFieldHeights ds row h
     → max h.right (capped (highest (right_fields (expanded_rows ds rows)))) ≡ capped (highest (right_fields (expanded_rows ds (Term.with_row row rows))))
 row_right ds (Term.row_both a b l) rows h e =
     ap (λ n. max n (capped (highest (right_fields (expanded_rows ds rows))))) e.1
@@ -117,10 +117,10 @@ max_more : (n m k a : ℕ) → max m k ≡ a → max (max n m) k ≡ max n a
 max_more n m k a e = omega (arith, e)
 
 -- what is left of the rows, and of the arms
-abbrev pub rows_from : ℕ → List Row → Term.RowTrees
+abbrev pub rows_from : ℕ → List Row → Term.TermRows
 rows_from i rows = Term.term_rows_of (map row_tree (drop i rows))
 
-abbrev pub arms_from : ℕ → List (List ℕ × List ℕ × Lens) → Term.ArmTrees
+abbrev pub arms_from : ℕ → List (List ℕ × List ℕ × Lens) → Term.TermArms
 arms_from i arms = Term.term_arms_of (map arm_tree (drop i arms))
 
 pub next_row_left : (ds : Definitions) (rows : List Row) (i : ℕ) (r : Row) (n a : ℕ) (h : SideHeights) → i < length rows → r ≡ get_or rows i r
@@ -137,7 +137,7 @@ next_row_right ds rows i r n a h low is e all =
     max_more n h.right _ _ (row_right ds (row_tree r) (rows_from (i + 1) rows) h e)
     ∙ ap (λ xs. max n (capped (highest (right_fields (expanded_rows ds (Term.term_rows_of (map row_tree xs))))))) (sym (from_place rows i r low is)) ∙ all
 
-row_first : (ds : Definitions) (row : Term.RowTree) (rows : Term.RowTrees) → rows_failure ds (Term.with_row row rows) ≡ option_or (row_failure ds row) (rows_failure ds rows)
+row_first : (ds : Definitions) (row : Term.RowTree) (rows : Term.TermRows) → rows_failure ds (Term.with_row row rows) ≡ option_or (row_failure ds row) (rows_failure ds rows)
 row_first ds (Term.row_both a b l) rows = refl
 row_first ds (Term.row_left a t) rows = refl
 row_first ds (Term.row_right b t) rows = refl

@@ -81,7 +81,7 @@ mutual
       to_room (λ left. type_room ds t left) 1 (type_parts (expanded_type ds t)) (type_parts (expanded_type ds t) + 1) n (λ m. type_room-parts ds t m) (omega arith)
   type_room-parts ds (Term.named x) n = refl
 
-  pub fields_room-parts : (ds : Definitions) (fs : Term.FieldTrees) (n : ℕ) → fields_room ds fs n ≡ room_after (fields_parts (expanded_fields ds fs)) n
+  pub fields_room-parts : (ds : Definitions) (fs : Term.TermFields) (n : ℕ) → fields_room ds fs n ≡ room_after (fields_parts (expanded_fields ds fs)) n
   fields_room-parts ds Term.no_fields n = no_parts n
   fields_room-parts ds (Term.more_fields x t fs) n =
       ap (option_and_then (λ left. fields_room ds fs left))
@@ -120,7 +120,7 @@ mutual
   lens_room-parts ds (Term.inv_of l) n = one_more ds l n (λ m. lens_room-parts ds l m)
   lens_room-parts ds (Term.named_lens x) n = refl
 
-  pub rows_room-parts : (ds : Definitions) (rows : Term.RowTrees) (n : ℕ) → rows_room ds rows n ≡ room_after (rows_parts (expanded_rows ds rows)) n
+  pub rows_room-parts : (ds : Definitions) (rows : Term.TermRows) (n : ℕ) → rows_room ds rows n ≡ room_after (rows_parts (expanded_rows ds rows)) n
   rows_room-parts ds Term.no_rows n = no_parts n
   rows_room-parts ds (Term.both a b l rows) n =
       ap (option_and_then (λ left. rows_room ds rows left)) (one_more ds l n (λ m. lens_room-parts ds l m))
@@ -132,7 +132,7 @@ mutual
       ap (option_and_then (λ left. rows_room ds rows left)) (one_type ds t n)
       ∙ then_room (λ left. rows_room ds rows left) (type_parts (expanded_type ds t) + 1) (rows_parts (expanded_rows ds rows)) n (λ m. rows_room-parts ds rows m)
 
-  pub arms_room-parts : (ds : Definitions) (arms : Term.ArmTrees) (n : ℕ) → arms_room ds arms n ≡ room_after (arms_parts (expanded_arms ds arms)) n
+  pub arms_room-parts : (ds : Definitions) (arms : Term.TermArms) (n : ℕ) → arms_room ds arms n ≡ room_after (arms_parts (expanded_arms ds arms)) n
   arms_room-parts ds Term.no_arms n = no_parts n
   arms_room-parts ds (Term.more_arms a b l arms) n =
       ap (option_and_then (λ left. arms_room ds arms left)) (one_more ds l n (λ m. lens_room-parts ds l m))

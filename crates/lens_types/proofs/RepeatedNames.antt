@@ -103,7 +103,7 @@ pub on-members : (ms : List (List ℕ)) → on Left (sided_members ms) ≡ ms
 on-members [] = refl
 on-members (m ∷ ms) = ap (λ xs. m ∷ xs) (on-members ms)
 
-pub on-fields : (ds : Definitions) (fs : Term.FieldTrees) → on Left (field_names fs) ≡ names_of (expanded_fields ds fs)
+pub on-fields : (ds : Definitions) (fs : Term.TermFields) → on Left (field_names fs) ≡ names_of (expanded_fields ds fs)
 on-fields ds Term.no_fields = refl
 on-fields ds (Term.more_fields n t fs) = ap (λ xs. n ∷ xs) (on-fields ds fs)
 
@@ -115,23 +115,23 @@ pub on-rights : (ps : List (List ℕ × List ℕ)) → on Right (pair_names ps) 
 on-rights [] = refl
 on-rights (p ∷ ps) = ap (λ xs. p.1 ∷ xs) (on-rights ps)
 
-pub on-left_names : (ds : Definitions) (rows : Term.RowTrees) → on Left (row_names rows) ≡ left_names (expanded_rows ds rows)
+pub on-left_names : (ds : Definitions) (rows : Term.TermRows) → on Left (row_names rows) ≡ left_names (expanded_rows ds rows)
 on-left_names ds Term.no_rows = refl
 on-left_names ds (Term.both a b l rows) = ap (λ xs. a ∷ xs) (on-left_names ds rows)
 on-left_names ds (Term.only_left a t rows) = ap (λ xs. a ∷ xs) (on-left_names ds rows)
 on-left_names ds (Term.only_right b t rows) = on-left_names ds rows
 
-pub on-right_names : (ds : Definitions) (rows : Term.RowTrees) → on Right (row_names rows) ≡ right_names (expanded_rows ds rows)
+pub on-right_names : (ds : Definitions) (rows : Term.TermRows) → on Right (row_names rows) ≡ right_names (expanded_rows ds rows)
 on-right_names ds Term.no_rows = refl
 on-right_names ds (Term.both a b l rows) = ap (λ xs. b ∷ xs) (on-right_names ds rows)
 on-right_names ds (Term.only_left a t rows) = on-right_names ds rows
 on-right_names ds (Term.only_right b t rows) = ap (λ xs. b ∷ xs) (on-right_names ds rows)
 
-pub on-left_arms : (ds : Definitions) (arms : Term.ArmTrees) → on Left (arm_names arms) ≡ left_arms (expanded_arms ds arms)
+pub on-left_arms : (ds : Definitions) (arms : Term.TermArms) → on Left (arm_names arms) ≡ left_arms (expanded_arms ds arms)
 on-left_arms ds Term.no_arms = refl
 on-left_arms ds (Term.more_arms a b l arms) = ap (λ xs. a ∷ xs) (on-left_arms ds arms)
 
-pub on-right_arms : (ds : Definitions) (arms : Term.ArmTrees) → on Right (arm_names arms) ≡ right_arms (expanded_arms ds arms)
+pub on-right_arms : (ds : Definitions) (arms : Term.TermArms) → on Right (arm_names arms) ≡ right_arms (expanded_arms ds arms)
 on-right_arms ds Term.no_arms = refl
 on-right_arms ds (Term.more_arms a b l arms) = ap (λ xs. b ∷ xs) (on-right_arms ds arms)
 
@@ -140,7 +140,7 @@ on-right_arms ds (Term.more_arms a b l arms) = ap (λ xs. b ∷ xs) (on-right_ar
 pub members_distinct : (ms : List (List ℕ)) → first_repeat (sided_members ms) ≡ None → are_distinct ms ≡ true
 members_distinct ms h = sides_distinct (sided_members ms) Left ms (on-members ms) h
 
-pub fields_distinct : (ds : Definitions) (fs : Term.FieldTrees) → first_repeat (field_names fs) ≡ None → are_distinct (names_of (expanded_fields ds fs)) ≡ true
+pub fields_distinct : (ds : Definitions) (fs : Term.TermFields) → first_repeat (field_names fs) ≡ None → are_distinct (names_of (expanded_fields ds fs)) ≡ true
 fields_distinct ds fs h = sides_distinct (field_names fs) Left _ (on-fields ds fs) h
 
 pub lefts_distinct : (ps : List (List ℕ × List ℕ)) → first_repeat (pair_names ps) ≡ None → are_distinct (lefts ps) ≡ true
@@ -149,16 +149,16 @@ lefts_distinct ps h = sides_distinct (pair_names ps) Left _ (on-lefts ps) h
 pub rights_distinct : (ps : List (List ℕ × List ℕ)) → first_repeat (pair_names ps) ≡ None → are_distinct (rights ps) ≡ true
 rights_distinct ps h = sides_distinct (pair_names ps) Right _ (on-rights ps) h
 
-pub left_names_distinct : (ds : Definitions) (rows : Term.RowTrees) → first_repeat (row_names rows) ≡ None → are_distinct (left_names (expanded_rows ds rows)) ≡ true
+pub left_names_distinct : (ds : Definitions) (rows : Term.TermRows) → first_repeat (row_names rows) ≡ None → are_distinct (left_names (expanded_rows ds rows)) ≡ true
 left_names_distinct ds rows h = sides_distinct (row_names rows) Left _ (on-left_names ds rows) h
 
-pub right_names_distinct : (ds : Definitions) (rows : Term.RowTrees) → first_repeat (row_names rows) ≡ None → are_distinct (right_names (expanded_rows ds rows)) ≡ true
+pub right_names_distinct : (ds : Definitions) (rows : Term.TermRows) → first_repeat (row_names rows) ≡ None → are_distinct (right_names (expanded_rows ds rows)) ≡ true
 right_names_distinct ds rows h = sides_distinct (row_names rows) Right _ (on-right_names ds rows) h
 
-pub left_arms_distinct : (ds : Definitions) (arms : Term.ArmTrees) → first_repeat (arm_names arms) ≡ None → are_distinct (left_arms (expanded_arms ds arms)) ≡ true
+pub left_arms_distinct : (ds : Definitions) (arms : Term.TermArms) → first_repeat (arm_names arms) ≡ None → are_distinct (left_arms (expanded_arms ds arms)) ≡ true
 left_arms_distinct ds arms h = sides_distinct (arm_names arms) Left _ (on-left_arms ds arms) h
 
-pub right_arms_distinct : (ds : Definitions) (arms : Term.ArmTrees) → first_repeat (arm_names arms) ≡ None → are_distinct (right_arms (expanded_arms ds arms)) ≡ true
+pub right_arms_distinct : (ds : Definitions) (arms : Term.TermArms) → first_repeat (arm_names arms) ≡ None → are_distinct (right_arms (expanded_arms ds arms)) ≡ true
 right_arms_distinct ds arms h = sides_distinct (arm_names arms) Right _ (on-right_arms ds arms) h
 
 -- ---- a set of names with their sides

@@ -1,6 +1,6 @@
 -- An element takes fewer steps than the list that has it.
 use Rattle.std.proofs.Common.{◌≡◌, ℕ, zero, suc, ◌+◌, ◌<◌, ◌≤◌, List, [], ◌∷◌, length, map, get_or, arith}
-use Rattle.program_terms.specs.Terms.{term_fields_of, LensTree, id_of, bij_of, disc_of, then_of, rec_lens, alt_lens, each_of, keyed_each, tree_each, part_of, inv_of, named_lens, RowTree, row_both, row_left, row_right, RowTrees, with_row, term_rows_of, term_arms_of}
+use Rattle.program_terms.specs.Terms.{term_fields_of, LensTree, id_of, bij_of, disc_of, then_of, rec_lens, alt_lens, each_of, keyed_each, tree_each, part_of, inv_of, named_lens, RowTree, row_both, row_left, row_right, TermRows, with_row, term_rows_of, term_arms_of}
 use Rattle.program_terms.specs.Views.{type_tree, field_tree, lens_tree, row_tree, arm_tree}
 use Rattle.program_terms.specs.declared.types.TyExpr.{TyExpr}
 use Rattle.program_terms.specs.declared.lens.Lens.{Lens}
@@ -17,7 +17,7 @@ field_smaller (g ∷ fs) (suc i) f h e =
     let rest : type_size (type_tree f.1) < fields_size (term_fields_of (map field_tree fs)) = field_smaller fs i f (omega arith) e in
     omega arith
 
-term_row-size : (r : RowTree) (rows : RowTrees) → rows_size (with_row r rows) ≡ row_size r + rows_size rows + 1
+term_row-size : (r : RowTree) (rows : TermRows) → rows_size (with_row r rows) ≡ row_size r + rows_size rows + 1
 term_row-size (row_both a b l) rows = omega arith
 term_row-size (row_left a t) rows = omega arith
 term_row-size (row_right b t) rows = omega arith

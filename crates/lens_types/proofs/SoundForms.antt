@@ -107,7 +107,7 @@ mutual
   type_formed ds s (Term.tree t) h = type_formed ds s t h
   type_formed ds s (Term.named n) h = named_formed ds n s
 
-  fields_formed : (ds : Definitions) → are_sound ds ≡ true → (fs : Term.FieldTrees) → fields_failure fs ≡ None → are_well_formed (expanded_fields ds fs) ≡ true
+  fields_formed : (ds : Definitions) → are_sound ds ≡ true → (fs : Term.TermFields) → fields_failure fs ≡ None → are_well_formed (expanded_fields ds fs) ≡ true
   fields_formed ds s Term.no_fields h = refl
   fields_formed ds s (Term.more_fields n t fs) h =
       let none = none_both (type_failure t) (fields_failure fs) h in
@@ -170,7 +170,7 @@ mutual
   lens_typed ds s (Term.inv_of l) h = lens_typed ds s l (none_both (lens_failure ds l) _ h).0
   lens_typed ds s (Term.named_lens n) h = first_and (is_typed (form_named ds n)) _ (named_sound ds n s)
 
-  rows_typed : (ds : Definitions) → are_sound ds ≡ true → (rows : Term.RowTrees) → rows_failure ds rows ≡ None → are_typed_rows (expanded_rows ds rows) ≡ true
+  rows_typed : (ds : Definitions) → are_sound ds ≡ true → (rows : Term.TermRows) → rows_failure ds rows ≡ None → are_typed_rows (expanded_rows ds rows) ≡ true
   rows_typed ds s Term.no_rows h = refl
   rows_typed ds s (Term.both a b l rows) h =
       let none = none_both (lens_failure ds l) (rows_failure ds rows) h in both_true _ _ (lens_typed ds s l none.0) (rows_typed ds s rows none.1)
@@ -179,7 +179,7 @@ mutual
   rows_typed ds s (Term.only_right b t rows) h =
       let none = none_both (type_failure t) (rows_failure ds rows) h in both_true _ _ (type_formed ds s t none.0) (rows_typed ds s rows none.1)
 
-  arms_typed : (ds : Definitions) → are_sound ds ≡ true → (arms : Term.ArmTrees) → arms_failure ds arms ≡ None → are_typed_arms (expanded_arms ds arms) ≡ true
+  arms_typed : (ds : Definitions) → are_sound ds ≡ true → (arms : Term.TermArms) → arms_failure ds arms ≡ None → are_typed_arms (expanded_arms ds arms) ≡ true
   arms_typed ds s Term.no_arms h = refl
   arms_typed ds s (Term.more_arms a b l arms) h =
       let none = none_both (lens_failure ds l) (arms_failure ds arms) h in both_true _ _ (lens_typed ds s l none.0) (arms_typed ds s arms none.1)

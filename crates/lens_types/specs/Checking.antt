@@ -53,7 +53,7 @@ abbrev mutual
   -- a name counts as passed
   type_failure (Term.named n) = None
 
-  pub fields_failure : Term.FieldTrees → Option Failure
+  pub fields_failure : Term.TermFields → Option Failure
   fields_failure Term.no_fields = None
   fields_failure (Term.more_fields n t fs) = option_or (type_failure t) (fields_failure fs)
 
@@ -103,13 +103,13 @@ abbrev mutual
   -- a name counts as passed
   lens_failure ds (Term.named_lens n) = None
 
-  pub rows_failure : Definitions → Term.RowTrees → Option Failure
+  pub rows_failure : Definitions → Term.TermRows → Option Failure
   rows_failure ds Term.no_rows = None
   rows_failure ds (Term.both a b l rows) = option_or (lens_failure ds l) (rows_failure ds rows)
   rows_failure ds (Term.only_left a t rows) = option_or (type_failure t) (rows_failure ds rows)
   rows_failure ds (Term.only_right b t rows) = option_or (type_failure t) (rows_failure ds rows)
 
-  pub arms_failure : Definitions → Term.ArmTrees → Option Failure
+  pub arms_failure : Definitions → Term.TermArms → Option Failure
   arms_failure ds Term.no_arms = None
   arms_failure ds (Term.more_arms a b l arms) = option_or (lens_failure ds l) (arms_failure ds arms)
 
@@ -131,13 +131,13 @@ abbrev mutual
   written_height ds (Term.inv_of l) = written_height ds l
   written_height ds (Term.named_lens n) = 0
 
-  pub rows_written : Definitions → Term.RowTrees → ℕ
+  pub rows_written : Definitions → Term.TermRows → ℕ
   rows_written ds Term.no_rows = 0
   rows_written ds (Term.both a b l rows) = max (written_height ds l) (rows_written ds rows)
   rows_written ds (Term.only_left a t rows) = max (height (expanded_type ds t)) (rows_written ds rows)
   rows_written ds (Term.only_right b t rows) = max (height (expanded_type ds t)) (rows_written ds rows)
 
-  pub arms_written : Definitions → Term.ArmTrees → ℕ
+  pub arms_written : Definitions → Term.TermArms → ℕ
   arms_written ds Term.no_arms = 0
   arms_written ds (Term.more_arms a b l arms) = max (written_height ds l) (arms_written ds arms)
 

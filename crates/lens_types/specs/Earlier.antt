@@ -67,7 +67,7 @@ abbrev mutual
   expanded_type ds (Term.named n) = type_named ds n
 
   -- fields, or tags, in written order
-  pub expanded_fields : Definitions → Term.FieldTrees → FieldTrees
+  pub expanded_fields : Definitions → Term.TermFields → FieldTrees
   expanded_fields ds Term.no_fields = no_fields
   expanded_fields ds (Term.more_fields n t fs) = more_fields n (expanded_type ds t) (expanded_fields ds fs)
 
@@ -87,13 +87,13 @@ abbrev mutual
   expanded_form ds (Term.inv_of l) = form_inv (expanded_form ds l)
   expanded_form ds (Term.named_lens n) = form_named ds n
 
-  pub expanded_rows : Definitions → Term.RowTrees → RowTrees
+  pub expanded_rows : Definitions → Term.TermRows → RowTrees
   expanded_rows ds Term.no_rows = no_rows
   expanded_rows ds (Term.both a b l rows) = both a b (expanded_form ds l) (expanded_rows ds rows)
   expanded_rows ds (Term.only_left a t rows) = only_left a (expanded_type ds t) (expanded_rows ds rows)
   expanded_rows ds (Term.only_right b t rows) = only_right b (expanded_type ds t) (expanded_rows ds rows)
 
-  pub expanded_arms : Definitions → Term.ArmTrees → ArmTrees
+  pub expanded_arms : Definitions → Term.TermArms → ArmTrees
   expanded_arms ds Term.no_arms = no_arms
   expanded_arms ds (Term.more_arms a b l arms) = more_arms a b (expanded_form ds l) (expanded_arms ds arms)
 

@@ -29,7 +29,7 @@ abbrev mutual
   type_room ds (Term.tree t) room = option_and_then (λ left. type_room ds t left) (room_after 1 room)
   type_room ds (Term.named n) room = room_after (type_parts (type_named ds n)) room
 
-  pub fields_room : Definitions → Term.FieldTrees → ℕ → Option ℕ
+  pub fields_room : Definitions → Term.TermFields → ℕ → Option ℕ
   fields_room ds Term.no_fields room = Some room
   fields_room ds (Term.more_fields n t fs) room =
       option_and_then (λ left. fields_room ds fs left)
@@ -53,7 +53,7 @@ abbrev mutual
   lens_room ds (Term.inv_of l) room = option_and_then (λ left. lens_room ds l left) (room_after 1 room)
   lens_room ds (Term.named_lens n) room = room_after (form_parts (form_named ds n)) room
 
-  pub rows_room : Definitions → Term.RowTrees → ℕ → Option ℕ
+  pub rows_room : Definitions → Term.TermRows → ℕ → Option ℕ
   rows_room ds Term.no_rows room = Some room
   rows_room ds (Term.both a b l rows) room =
       option_and_then (λ left. rows_room ds rows left)
@@ -63,7 +63,7 @@ abbrev mutual
   rows_room ds (Term.only_right b t rows) room =
       option_and_then (λ left. rows_room ds rows left) (option_and_then (type_room ds t) (room_after 1 room))
 
-  pub arms_room : Definitions → Term.ArmTrees → ℕ → Option ℕ
+  pub arms_room : Definitions → Term.TermArms → ℕ → Option ℕ
   arms_room ds Term.no_arms room = Some room
   arms_room ds (Term.more_arms a b l arms) room =
       option_and_then (λ left. arms_room ds arms left)

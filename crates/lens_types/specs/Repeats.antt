@@ -37,7 +37,7 @@ abbrev pub sided_members : List (List ℕ) → List SidedName
 sided_members [] = []
 sided_members (m ∷ ms) = (Left, m) ∷ sided_members ms
 
-abbrev pub field_names : Term.FieldTrees → List SidedName
+abbrev pub field_names : Term.TermFields → List SidedName
 field_names Term.no_fields = []
 field_names (Term.more_fields n t fs) = (Left, n) ∷ field_names fs
 
@@ -46,13 +46,13 @@ abbrev pub pair_names : List (List ℕ × List ℕ) → List SidedName
 pair_names [] = []
 pair_names (p ∷ ps) = (Left, p.0) ∷ (Right, p.1) ∷ pair_names ps
 
-abbrev pub row_names : Term.RowTrees → List SidedName
+abbrev pub row_names : Term.TermRows → List SidedName
 row_names Term.no_rows = []
 row_names (Term.both a b l rows) = (Left, a) ∷ (Right, b) ∷ row_names rows
 row_names (Term.only_left a t rows) = (Left, a) ∷ row_names rows
 row_names (Term.only_right b t rows) = (Right, b) ∷ row_names rows
 
-abbrev pub arm_names : Term.ArmTrees → List SidedName
+abbrev pub arm_names : Term.TermArms → List SidedName
 arm_names Term.no_arms = []
 arm_names (Term.more_arms a b l arms) = (Left, a) ∷ (Right, b) ∷ arm_names arms
 

@@ -1,10 +1,10 @@
 -- For the proofs that the checker ends: how many steps a walk over a type or a lens takes at most.
 use Rattle.std.specs.Prelude.{ℕ, ◌+◌}
 use Rattle.program_terms.specs.Terms.{TypeTree, unit, bool, int, text, enum_of, record_of, one_of, list, keyed, tree}
-use Rattle.program_terms.specs.Terms.{named, FieldTrees, no_fields, more_fields, LensTree, id_of, bij_of, disc_of}
+use Rattle.program_terms.specs.Terms.{named, TermFields, no_fields, more_fields, LensTree, id_of, bij_of, disc_of}
 use Rattle.program_terms.specs.Terms.{then_of, rec_lens, alt_lens, each_of, keyed_each, tree_each, part_of, inv_of}
-use Rattle.program_terms.specs.Terms.{named_lens, RowTree, row_both, row_left, row_right, RowTrees, no_rows, both}
-use Rattle.program_terms.specs.Terms.{only_left, only_right, ArmTrees, no_arms, more_arms}
+use Rattle.program_terms.specs.Terms.{named_lens, RowTree, row_both, row_left, row_right, TermRows, no_rows, both}
+use Rattle.program_terms.specs.Terms.{only_left, only_right, TermArms, no_arms, more_arms}
 
 abbrev mutual
   pub type_size : TypeTree → ℕ
@@ -20,7 +20,7 @@ abbrev mutual
   type_size (tree t) = type_size t + 1
   type_size (named n) = 1
 
-  pub fields_size : FieldTrees → ℕ
+  pub fields_size : TermFields → ℕ
   fields_size no_fields = 0
   fields_size (more_fields n t fs) = type_size t + fields_size fs + 1
 
@@ -39,13 +39,13 @@ abbrev mutual
   lens_size (inv_of l) = lens_size l + 1
   lens_size (named_lens n) = 1
 
-  pub rows_size : RowTrees → ℕ
+  pub rows_size : TermRows → ℕ
   rows_size no_rows = 0
   rows_size (both a b l rows) = lens_size l + rows_size rows + 2
   rows_size (only_left a t rows) = rows_size rows + 2
   rows_size (only_right b t rows) = rows_size rows + 2
 
-  pub arms_size : ArmTrees → ℕ
+  pub arms_size : TermArms → ℕ
   arms_size no_arms = 0
   arms_size (more_arms a b l arms) = lens_size l + arms_size arms + 1
 

@@ -9,10 +9,10 @@ use Rattle.program_tokens.specs.declared.token.Token.{Token}
 use Rattle.program_tokens.specs.declared.token.Token.TheVariants.{Keyword, Name, Text, Number, Mark, End}
 use Rattle.program_tokens.specs.declared.token.PlacedToken.{PlacedToken}
 use Rattle.program_tokens.specs.Tokens.{placed}
-use Rattle.program_terms.specs.Terms.{TypeTree, FieldTrees, unit, bool, int, text, enum_of, record_of, one_of, list}
+use Rattle.program_terms.specs.Terms.{TypeTree, TermFields, unit, bool, int, text, enum_of, record_of, one_of, list}
 use Rattle.program_terms.specs.Terms.{keyed, tree, named, no_fields, more_fields, LensTree, id_of, bij_of, disc_of}
 use Rattle.program_terms.specs.Terms.{then_of, rec_lens, alt_lens, each_of, keyed_each, tree_each, part_of, inv_of}
-use Rattle.program_terms.specs.Terms.{named_lens, RowTrees, no_rows, both, only_left, only_right, ArmTrees, no_arms}
+use Rattle.program_terms.specs.Terms.{named_lens, TermRows, no_rows, both, only_left, only_right, TermArms, no_arms}
 use Rattle.program_terms.specs.Terms.{more_arms, DefTree, type_def, lens_def, initial_number, initial_text}
 use Rattle.program_terms.specs.Terms.{initial_member, initial_left}
 use Rattle.program_grammar.specs.declared.mention.Sort.{Sort}
@@ -83,17 +83,17 @@ abbrev mutual
   IsType (suc n) (tree t) here there = (a : Point) × Is (Keyword words.Tree) here a × IsType n t a there
   IsType (suc n) (named s) here there = IsMention sorts.Type s here there
 
-  pub PerhapsFields : ℕ → FieldTrees → Point → Point → Type 0
+  pub PerhapsFields : ℕ → TermFields → Point → Point → Type 0
   PerhapsFields n no_fields here there = here ≡ there
   PerhapsFields n (more_fields f t fs) here there = (a b c : Point) × IsField f here a × Is (Mark Colon) a b
       × IsType n t b c × OtherFields n fs c there
 
-  pub AreFields : ℕ → FieldTrees → Point → Point → Type 0
+  pub AreFields : ℕ → TermFields → Point → Point → Type 0
   AreFields n no_fields here there = ⊥
   AreFields n (more_fields f t fs) here there = (a b c : Point) × IsField f here a × Is (Mark Colon) a b
       × IsType n t b c × OtherFields n fs c there
 
-  pub OtherFields : ℕ → FieldTrees → Point → Point → Type 0
+  pub OtherFields : ℕ → TermFields → Point → Point → Type 0
   OtherFields n no_fields here there = here ≡ there
   OtherFields n (more_fields f t fs) here there = (a b c d : Point) × Is (Mark Comma) here a × IsField f a b
       × Is (Mark Colon) b c × IsType n t c d × OtherFields n fs d there
@@ -122,7 +122,7 @@ abbrev mutual
   IsLens (suc n) (inv_of l) here there = (a : Point) × Is (Keyword words.Inv) here a × IsLens n l a there
   IsLens (suc n) (named_lens s) here there = IsMention sorts.Lens s here there
 
-  pub PerhapsRows : ℕ → RowTrees → Point → Point → Type 0
+  pub PerhapsRows : ℕ → TermRows → Point → Point → Type 0
   PerhapsRows n no_rows here there = here ≡ there
   PerhapsRows n (both f g l rs) here there = (a b c d e : Point) × IsField f here a × Is (Mark Tilde) a b
       × IsField g b c × Is (Mark Colon) c d × IsLens n l d e × OtherRows n rs e there
@@ -131,7 +131,7 @@ abbrev mutual
   PerhapsRows n (only_right f t rs) here there = (a b c d : Point) × Is (Keyword words.Right) here a × IsField f a b
       × Is (Mark Colon) b c × IsType n t c d × OtherRows n rs d there
 
-  pub OtherRows : ℕ → RowTrees → Point → Point → Type 0
+  pub OtherRows : ℕ → TermRows → Point → Point → Type 0
   OtherRows n no_rows here there = here ≡ there
   OtherRows n (both f g l rs) here there = (z a b c d e : Point) × Is (Mark Comma) here z × IsField f z a
       × Is (Mark Tilde) a b × IsField g b c × Is (Mark Colon) c d × IsLens n l d e × OtherRows n rs e there
@@ -140,12 +140,12 @@ abbrev mutual
   OtherRows n (only_right f t rs) here there = (z a b c d : Point) × Is (Mark Comma) here z
       × Is (Keyword words.Right) z a × IsField f a b × Is (Mark Colon) b c × IsType n t c d × OtherRows n rs d there
 
-  pub AreArms : ℕ → ArmTrees → Point → Point → Type 0
+  pub AreArms : ℕ → TermArms → Point → Point → Type 0
   AreArms n no_arms here there = ⊥
   AreArms n (more_arms f g l arms) here there = (a b c d e : Point) × IsField f here a × Is (Mark Tilde) a b
       × IsField g b c × Is (Mark Colon) c d × IsLens n l d e × OtherArms n arms e there
 
-  pub OtherArms : ℕ → ArmTrees → Point → Point → Type 0
+  pub OtherArms : ℕ → TermArms → Point → Point → Type 0
   OtherArms n no_arms here there = here ≡ there
   OtherArms n (more_arms f g l arms) here there = (z a b c d e : Point) × Is (Mark Comma) here z × IsField f z a
       × Is (Mark Tilde) a b × IsField g b c × Is (Mark Colon) c d × IsLens n l d e × OtherArms n arms e there

@@ -1,7 +1,7 @@
 -- How many levels types and lenses have, which falls with each part: measures for what recurses over them.
 use Rattle.std.proofs.Common.{◌≡◌, ℕ, zero, suc, ◌+◌, ◌<◌, ◌≤◌, List, [], ◌∷◌, map, length, get_or, ap, arith}
 use Rattle.std.specs.Prelude.{max}
-use Rattle.program_terms.specs.Terms.{TypeTree, FieldTrees, unit, bool, int, text, enum_of, record_of, one_of, list, keyed, tree, named, no_fields, more_fields, term_fields_of, LensTree, RowTrees, ArmTrees, id_of, bij_of, disc_of, then_of, rec_lens, alt_lens, each_of, keyed_each, tree_each, part_of, inv_of, named_lens, no_rows, both, only_left, only_right, no_arms, more_arms, RowTree, row_both, row_left, row_right, with_row, term_rows_of, term_arms_of}
+use Rattle.program_terms.specs.Terms.{TypeTree, TermFields, unit, bool, int, text, enum_of, record_of, one_of, list, keyed, tree, named, no_fields, more_fields, term_fields_of, LensTree, TermRows, TermArms, id_of, bij_of, disc_of, then_of, rec_lens, alt_lens, each_of, keyed_each, tree_each, part_of, inv_of, named_lens, no_rows, both, only_left, only_right, no_arms, more_arms, RowTree, row_both, row_left, row_right, with_row, term_rows_of, term_arms_of}
 use Rattle.program_terms.specs.Views.{type_tree, field_tree, lens_tree, row_tree, arm_tree}
 use Rattle.program_terms.specs.declared.types.TyExpr.{TyExpr}
 use Rattle.program_terms.specs.declared.lens.Lens.{Lens}
@@ -23,7 +23,7 @@ abbrev mutual
   type_levels (tree t) = type_levels t + 1
   type_levels (named n) = 1
 
-  pub field_levels : FieldTrees → ℕ
+  pub field_levels : TermFields → ℕ
   field_levels no_fields = 0
   field_levels (more_fields n t fs) = max (type_levels t) (field_levels fs)
 
@@ -54,13 +54,13 @@ abbrev mutual
   lens_levels (inv_of l) = lens_levels l + 1
   lens_levels (named_lens n) = 1
 
-  pub row_levels : RowTrees → ℕ
+  pub row_levels : TermRows → ℕ
   row_levels no_rows = 0
   row_levels (both a b l rows) = max (lens_levels l) (row_levels rows)
   row_levels (only_left a t rows) = row_levels rows
   row_levels (only_right a t rows) = row_levels rows
 
-  pub arm_levels : ArmTrees → ℕ
+  pub arm_levels : TermArms → ℕ
   arm_levels no_arms = 0
   arm_levels (more_arms a b l arms) = max (lens_levels l) (arm_levels arms)
 
@@ -70,7 +70,7 @@ levels_of_row (row_both a b l) = lens_levels l
 levels_of_row (row_left a t) = 0
 levels_of_row (row_right a t) = 0
 
-first_row : (r : RowTree) (rows : RowTrees) → row_levels (with_row r rows) ≡ max (levels_of_row r) (row_levels rows)
+first_row : (r : RowTree) (rows : TermRows) → row_levels (with_row r rows) ≡ max (levels_of_row r) (row_levels rows)
 first_row (row_both a b l) rows = omega arith
 first_row (row_left a t) rows = omega arith
 first_row (row_right a t) rows = omega arith

@@ -1,6 +1,6 @@
 -- Lists of trees, and the folds at the types that wrap a list.
 use Rattle.std.proofs.Common.{◌≡◌, ℕ, suc, List, [], ◌∷◌, length, map, rules, refl, ap, ◌∙◌}
-use Rattle.program_terms.specs.Terms.{TypeTree, LensTree, FieldTrees, no_fields, more_fields, term_fields_of, type_field_list, RowTree, row_both, row_left, row_right, RowTrees, no_rows, both, only_left, only_right, with_row, term_rows_of, row_list, ArmTrees, no_arms, more_arms, term_arms_of, arm_list}
+use Rattle.program_terms.specs.Terms.{TypeTree, LensTree, TermFields, no_fields, more_fields, term_fields_of, type_field_list, RowTree, row_both, row_left, row_right, TermRows, no_rows, both, only_left, only_right, with_row, term_rows_of, row_list, TermArms, no_arms, more_arms, term_arms_of, arm_list}
 use Rattle.program_terms.specs.Views.{fields_tree, field_tree, row_tree, rows_tree, arms_tree, arm_tree}
 use Rattle.program_terms.specs.declared.types.TyExpr.{TyExpr}
 use Rattle.program_terms.specs.declared.types.TyFields.{TyFields, out-TyFields, the_lemmas as fields_lemmas}
@@ -26,11 +26,11 @@ pub field_list-term_fields_of : (fs : List (List ℕ × TypeTree)) → type_fiel
 field_list-term_fields_of [] = refl
 field_list-term_fields_of (f ∷ fs) = ap (λ x. f ∷ x) (field_list-term_fields_of fs)
 
-pub term_fields_of-field_list : (fs : FieldTrees) → term_fields_of (type_field_list fs) ≡ fs
+pub term_fields_of-field_list : (fs : TermFields) → term_fields_of (type_field_list fs) ≡ fs
 term_fields_of-field_list no_fields = refl
 term_fields_of-field_list (more_fields n t fs) = ap (more_fields n t) (term_fields_of-field_list fs)
 
-with_row-list : (r : RowTree) (rows : RowTrees) → row_list (with_row r rows) ≡ r ∷ row_list rows
+with_row-list : (r : RowTree) (rows : TermRows) → row_list (with_row r rows) ≡ r ∷ row_list rows
 with_row-list (row_both a b l) rows = refl
 with_row-list (row_left a t) rows = refl
 with_row-list (row_right a t) rows = refl
@@ -39,7 +39,7 @@ pub row_list-term_rows_of : (rows : List RowTree) → row_list (term_rows_of row
 row_list-term_rows_of [] = refl
 row_list-term_rows_of (r ∷ rows) = with_row-list r (term_rows_of rows) ∙ ap (λ x. r ∷ x) (row_list-term_rows_of rows)
 
-pub term_rows_of-row_list : (rows : RowTrees) → term_rows_of (row_list rows) ≡ rows
+pub term_rows_of-row_list : (rows : TermRows) → term_rows_of (row_list rows) ≡ rows
 term_rows_of-row_list no_rows = refl
 term_rows_of-row_list (both a b l rows) = ap (both a b l) (term_rows_of-row_list rows)
 term_rows_of-row_list (only_left a t rows) = ap (only_left a t) (term_rows_of-row_list rows)
@@ -49,7 +49,7 @@ pub arm_list-term_arms_of : (arms : List (List ℕ × List ℕ × LensTree)) →
 arm_list-term_arms_of [] = refl
 arm_list-term_arms_of (a ∷ arms) = ap (λ x. a ∷ x) (arm_list-term_arms_of arms)
 
-pub term_arms_of-arm_list : (arms : ArmTrees) → term_arms_of (arm_list arms) ≡ arms
+pub term_arms_of-arm_list : (arms : TermArms) → term_arms_of (arm_list arms) ≡ arms
 term_arms_of-arm_list no_arms = refl
 term_arms_of-arm_list (more_arms a b l arms) = ap (more_arms a b l) (term_arms_of-arm_list arms)
 

@@ -14,23 +14,23 @@ mutual
     int : ℤ → TypeTree
     text : List ℕ → TypeTree
     enum_of : List (List ℕ) → List ℕ → TypeTree
-    record_of : FieldTrees → TypeTree
-    one_of : FieldTrees → TypeTree
+    record_of : TermFields → TypeTree
+    one_of : TermFields → TypeTree
     list : TypeTree → TypeTree
     keyed : TypeTree → TypeTree
     tree : TypeTree → TypeTree
     named : List ℕ → TypeTree
 
-  pub data FieldTrees : Type 0 where
-    no_fields : FieldTrees
-    more_fields : List ℕ → TypeTree → FieldTrees → FieldTrees
+  pub data TermFields : Type 0 where
+    no_fields : TermFields
+    more_fields : List ℕ → TypeTree → TermFields → TermFields
 
 -- a list of names with types as fields, and back
-abbrev pub term_fields_of : List (List ℕ × TypeTree) → FieldTrees
+abbrev pub term_fields_of : List (List ℕ × TypeTree) → TermFields
 term_fields_of [] = no_fields
 term_fields_of (f ∷ fs) = more_fields f.0 f.1 (term_fields_of fs)
 
-abbrev pub type_field_list : FieldTrees → List (List ℕ × TypeTree)
+abbrev pub type_field_list : TermFields → List (List ℕ × TypeTree)
 type_field_list no_fields = []
 type_field_list (more_fields n t fs) = (n, t) ∷ type_field_list fs
 
@@ -43,24 +43,24 @@ mutual
     bij_of : List (List ℕ × List ℕ) → List ℕ → LensTree
     disc_of : TypeTree → TypeTree → LensTree
     then_of : LensTree → LensTree → LensTree
-    rec_lens : RowTrees → LensTree
-    alt_lens : ArmTrees → LensTree
+    rec_lens : TermRows → LensTree
+    alt_lens : TermArms → LensTree
     each_of : LensTree → LensTree
     keyed_each : LensTree → LensTree
     tree_each : LensTree → LensTree
-    part_of : FieldTrees → LensTree
+    part_of : TermFields → LensTree
     inv_of : LensTree → LensTree
     named_lens : List ℕ → LensTree
 
-  pub data RowTrees : Type 0 where
-    no_rows : RowTrees
-    both : List ℕ → List ℕ → LensTree → RowTrees → RowTrees
-    only_left : List ℕ → TypeTree → RowTrees → RowTrees
-    only_right : List ℕ → TypeTree → RowTrees → RowTrees
+  pub data TermRows : Type 0 where
+    no_rows : TermRows
+    both : List ℕ → List ℕ → LensTree → TermRows → TermRows
+    only_left : List ℕ → TypeTree → TermRows → TermRows
+    only_right : List ℕ → TypeTree → TermRows → TermRows
 
-  pub data ArmTrees : Type 0 where
-    no_arms : ArmTrees
-    more_arms : List ℕ → List ℕ → LensTree → ArmTrees → ArmTrees
+  pub data TermArms : Type 0 where
+    no_arms : TermArms
+    more_arms : List ℕ → List ℕ → LensTree → TermArms → TermArms
 
 -- one row
 pub data RowTree : Type 0 where
@@ -69,28 +69,28 @@ pub data RowTree : Type 0 where
   row_right : List ℕ → TypeTree → RowTree
 
 -- a row before others
-abbrev pub with_row : RowTree → RowTrees → RowTrees
+abbrev pub with_row : RowTree → TermRows → TermRows
 with_row (row_both a b l) rows = both a b l rows
 with_row (row_left a t) rows = only_left a t rows
 with_row (row_right a t) rows = only_right a t rows
 
 -- a list of rows as rows, and back
-abbrev pub term_rows_of : List RowTree → RowTrees
+abbrev pub term_rows_of : List RowTree → TermRows
 term_rows_of [] = no_rows
 term_rows_of (r ∷ rs) = with_row r (term_rows_of rs)
 
-abbrev pub row_list : RowTrees → List RowTree
+abbrev pub row_list : TermRows → List RowTree
 row_list no_rows = []
 row_list (both a b l rows) = row_both a b l ∷ row_list rows
 row_list (only_left a t rows) = row_left a t ∷ row_list rows
 row_list (only_right a t rows) = row_right a t ∷ row_list rows
 
 -- a list of two tags with a lens as arms, and back
-abbrev pub term_arms_of : List (List ℕ × List ℕ × LensTree) → ArmTrees
+abbrev pub term_arms_of : List (List ℕ × List ℕ × LensTree) → TermArms
 term_arms_of [] = no_arms
 term_arms_of (a ∷ others) = more_arms a.0 a.1 a.2 (term_arms_of others)
 
-abbrev pub arm_list : ArmTrees → List (List ℕ × List ℕ × LensTree)
+abbrev pub arm_list : TermArms → List (List ℕ × List ℕ × LensTree)
 arm_list no_arms = []
 arm_list (more_arms a b l others) = (a, b, l) ∷ arm_list others
 

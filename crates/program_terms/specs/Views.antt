@@ -2,8 +2,8 @@
 -- The main definitions are `type_tree`, `lens_tree` and, at the end, `program_tree`; a definition whose name ends in
 -- `_step` is one level of them.
 use Rattle.std.specs.Prelude.{ℕ, List, map}
-use Rattle.program_terms.specs.Terms.{TypeTree, FieldTrees, unit, bool, int, text, enum_of, record_of, one_of, list}
-use Rattle.program_terms.specs.Terms.{keyed, tree, named, term_fields_of, LensTree, RowTree, RowTrees, ArmTrees, id_of}
+use Rattle.program_terms.specs.Terms.{TypeTree, TermFields, unit, bool, int, text, enum_of, record_of, one_of, list}
+use Rattle.program_terms.specs.Terms.{keyed, tree, named, term_fields_of, LensTree, RowTree, TermRows, TermArms, id_of}
 use Rattle.program_terms.specs.Terms.{bij_of, disc_of, then_of, rec_lens, alt_lens, each_of, keyed_each, tree_each}
 use Rattle.program_terms.specs.Terms.{part_of, inv_of, named_lens, row_both, row_left, row_right, term_rows_of}
 use Rattle.program_terms.specs.Terms.{term_arms_of, DefTree, type_def, lens_def, ProgramTree}
@@ -23,7 +23,7 @@ use Rattle.program_terms.specs.declared.program.Program.{Program}
 -- ---- types
 
 -- one level of a `TyExpr` and of a `TyFields`, each type inside already seen as its tree
-abbrev pub type_step : TyExpr-F TypeTree FieldTrees → TypeTree
+abbrev pub type_step : TyExpr-F TypeTree TermFields → TypeTree
 type_step TyExpr-F.Unit = unit
 type_step TyExpr-F.Bool = bool
 type_step (TyExpr-F.Int number) = int number
@@ -36,15 +36,15 @@ type_step (TyExpr-F.Keyed t) = keyed t.value
 type_step (TyExpr-F.Tree t) = tree t.value
 type_step (TyExpr-F.Named n) = named n
 
-abbrev pub fields_step : TyFields-F TypeTree FieldTrees → FieldTrees
+abbrev pub fields_step : TyFields-F TypeTree TermFields → TermFields
 fields_step fs = term_fields_of fs.items.items
 
 -- the tree of a `TyExpr`, and the trees of a `TyFields`
 abbrev pub type_tree : TyExpr → TypeTree
-type_tree = fold-TyExpr TypeTree FieldTrees type_step fields_step
+type_tree = fold-TyExpr TypeTree TermFields type_step fields_step
 
-abbrev pub fields_tree : TyFields → FieldTrees
-fields_tree = fold-TyFields TypeTree FieldTrees type_step fields_step
+abbrev pub fields_tree : TyFields → TermFields
+fields_tree = fold-TyFields TypeTree TermFields type_step fields_step
 
 -- a name with the tree of its type
 abbrev pub field_tree : List ℕ × TyExpr → List ℕ × TypeTree
@@ -53,7 +53,7 @@ field_tree f = (f.0, type_tree f.1)
 -- ---- lenses
 
 -- one level of a `Lens`, a `Row`, a `Rows` and an `Arms`, each lens inside already seen as its tree
-abbrev pub lens_step : Lens-F LensTree RowTree ArmTrees RowTrees → LensTree
+abbrev pub lens_step : Lens-F LensTree RowTree TermArms TermRows → LensTree
 lens_step (Lens-F.Id t) = id_of (type_tree t)
 lens_step (Lens-F.Bij pairs name) = bij_of pairs name
 lens_step (Lens-F.Disc t u) = disc_of (type_tree t) (type_tree u)
@@ -67,29 +67,29 @@ lens_step (Lens-F.Part fs) = part_of (fields_tree fs)
 lens_step (Lens-F.Inv l) = inv_of l.value
 lens_step (Lens-F.Named n) = named_lens n
 
-abbrev pub row_step : Row-F LensTree RowTree ArmTrees RowTrees → RowTree
+abbrev pub row_step : Row-F LensTree RowTree TermArms TermRows → RowTree
 row_step (Row-F.Both a b l) = row_both a b l
 row_step (Row-F.OnlyLeft a t) = row_left a (type_tree t)
 row_step (Row-F.OnlyRight a t) = row_right a (type_tree t)
 
-abbrev pub rows_step : Rows-F LensTree RowTree ArmTrees RowTrees → RowTrees
+abbrev pub rows_step : Rows-F LensTree RowTree TermArms TermRows → TermRows
 rows_step rows = term_rows_of rows.items.items
 
-abbrev pub arms_step : Arms-F LensTree RowTree ArmTrees RowTrees → ArmTrees
+abbrev pub arms_step : Arms-F LensTree RowTree TermArms TermRows → TermArms
 arms_step arms = term_arms_of arms.items.items
 
 -- the tree of a `Lens`, the tree of a `Row`, the trees of a `Rows` and of an `Arms`
 abbrev pub lens_tree : Lens → LensTree
-lens_tree = fold-Lens LensTree RowTree ArmTrees RowTrees lens_step row_step arms_step rows_step
+lens_tree = fold-Lens LensTree RowTree TermArms TermRows lens_step row_step arms_step rows_step
 
 abbrev pub row_tree : Row → RowTree
-row_tree = fold-Row LensTree RowTree ArmTrees RowTrees lens_step row_step arms_step rows_step
+row_tree = fold-Row LensTree RowTree TermArms TermRows lens_step row_step arms_step rows_step
 
-abbrev pub rows_tree : Rows → RowTrees
-rows_tree = fold-Rows LensTree RowTree ArmTrees RowTrees lens_step row_step arms_step rows_step
+abbrev pub rows_tree : Rows → TermRows
+rows_tree = fold-Rows LensTree RowTree TermArms TermRows lens_step row_step arms_step rows_step
 
-abbrev pub arms_tree : Arms → ArmTrees
-arms_tree = fold-Arms LensTree RowTree ArmTrees RowTrees lens_step row_step arms_step rows_step
+abbrev pub arms_tree : Arms → TermArms
+arms_tree = fold-Arms LensTree RowTree TermArms TermRows lens_step row_step arms_step rows_step
 
 -- the two tags of an arm with the tree of its lens
 abbrev pub arm_tree : List ℕ × List ℕ × Lens → List ℕ × List ℕ × LensTree

@@ -141,10 +141,10 @@ impl Twin for Row {
 }
 
 impl Twin for Rows {
-    ghost use Rattle.program_terms.specs.Terms.{RowTrees};
+    ghost use Rattle.program_terms.specs.Terms.{TermRows};
     ghost use Rattle.program_terms.specs.Views.{rows_tree};
 
-    ghost Meaning = { RowTrees };
+    ghost Meaning = { TermRows };
 
     ghost meaning = { rows_tree };
 
@@ -154,10 +154,10 @@ impl Twin for Rows {
 }
 
 impl Twin for Arms {
-    ghost use Rattle.program_terms.specs.Terms.{ArmTrees};
+    ghost use Rattle.program_terms.specs.Terms.{TermArms};
     ghost use Rattle.program_terms.specs.Views.{arms_tree};
 
-    ghost Meaning = { ArmTrees };
+    ghost Meaning = { TermArms };
 
     ghost meaning = { arms_tree };
 

@@ -85,10 +85,10 @@ impl Twin for TyExpr {
 }
 
 impl Twin for TyFields {
-    ghost use Rattle.program_terms.specs.Terms.{FieldTrees};
+    ghost use Rattle.program_terms.specs.Terms.{TermFields};
     ghost use Rattle.program_terms.specs.Views.{fields_tree};
 
-    ghost Meaning = { FieldTrees };
+    ghost Meaning = { TermFields };
 
     ghost meaning = { fields_tree };
 

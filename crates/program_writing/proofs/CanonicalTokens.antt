@@ -8,7 +8,7 @@ use Rattle.program_tokens.specs.declared.mark.Mark.TheVariants as marks
 use Rattle.program_tokens.specs.declared.token.Token.{Token}
 use Rattle.program_tokens.specs.declared.token.Token.TheVariants as tokens
 use Rattle.program_tokens.proofs.FirstToken.{Stops, stops_at_mark, stops_at_space, lex_mark, lex_end, skip_line, then_space}
-use Rattle.program_terms.specs.Terms.{TypeTree, FieldTrees, unit, bool, int, text, enum_of, record_of, one_of, list, keyed, tree, named, no_fields, more_fields, LensTree, id_of, bij_of, disc_of, then_of, rec_lens, alt_lens, each_of, keyed_each, tree_each, part_of, inv_of, named_lens, RowTrees, no_rows, both, only_left, only_right, ArmTrees, no_arms, more_arms, DefTree, type_def, lens_def, ProgramTree, initial_text, initial_member, initial_left}
+use Rattle.program_terms.specs.Terms.{TypeTree, TermFields, unit, bool, int, text, enum_of, record_of, one_of, list, keyed, tree, named, no_fields, more_fields, LensTree, id_of, bij_of, disc_of, then_of, rec_lens, alt_lens, each_of, keyed_each, tree_each, part_of, inv_of, named_lens, TermRows, no_rows, both, only_left, only_right, TermArms, no_arms, more_arms, DefTree, type_def, lens_def, ProgramTree, initial_text, initial_member, initial_left}
 use Rattle.program_grammar.specs.declared.mention.Sort.TheVariants as sorts
 use Rattle.program_grammar.specs.Mentions.{NotedDefinition, NotedProgram, definition_without_notes, without_notes}
 use Rattle.program_grammar.specs.Spelling.{Is, OtherStrings, AreStrings, IsTextPair, OtherPairs, ArePairs, IsType, PerhapsFields, AreFields, OtherFields, IsLens, PerhapsRows, OtherRows, AreArms, OtherArms, IsDefinition, AreDefinitions, IsProgram}
@@ -19,17 +19,17 @@ use Rattle.program_writing.proofs.InitialTokens.{a_number, a_string, a_text, num
 
 -- ---- where no word goes on
 
-fields_stop : (fs : FieldTrees) (rest : List ℕ) → Stops in_word rest → Stops in_word (put_fields (codes ", ") fs rest)
+fields_stop : (fs : TermFields) (rest : List ℕ) → Stops in_word rest → Stops in_word (put_fields (codes ", ") fs rest)
 fields_stop no_fields rest h = h
 fields_stop (more_fields f t fs) rest h = stops_at_mark marks.Comma
 
-rows_stop : (rows : RowTrees) (rest : List ℕ) → Stops in_word rest → Stops in_word (put_rows (codes ", ") rows rest)
+rows_stop : (rows : TermRows) (rest : List ℕ) → Stops in_word rest → Stops in_word (put_rows (codes ", ") rows rest)
 rows_stop no_rows rest h = h
 rows_stop (both f g l rows) rest h = stops_at_mark marks.Comma
 rows_stop (only_left f t rows) rest h = stops_at_mark marks.Comma
 rows_stop (only_right f t rows) rest h = stops_at_mark marks.Comma
 
-arms_stop : (arms : ArmTrees) (rest : List ℕ) → Stops in_word rest → Stops in_word (put_arms (codes ", ") arms rest)
+arms_stop : (arms : TermArms) (rest : List ℕ) → Stops in_word rest → Stops in_word (put_arms (codes ", ") arms rest)
 arms_stop no_arms rest h = h
 arms_stop (more_arms f g l arms) rest h = stops_at_mark marks.Comma
 
@@ -76,19 +76,19 @@ mutual
   a_type (suc n) (tree t) rest h stops = two (word_space words.Tree (put_type t rest)) (a_type n t rest h stops)
   a_type (suc n) (named m) rest h stops = mentioned sorts.Type m rest h stops
 
-  pub perhaps_fields : (n : ℕ) (fs : FieldTrees) (rest : List ℕ) → AreWritableFields n fs → Stops in_word rest → Spelt (PerhapsFields n fs) (put_fields [] fs rest) rest
+  pub perhaps_fields : (n : ℕ) (fs : TermFields) (rest : List ℕ) → AreWritableFields n fs → Stops in_word rest → Spelt (PerhapsFields n fs) (put_fields [] fs rest) rest
   perhaps_fields n no_fields rest h stops = nothing
   perhaps_fields n (more_fields f t fs) rest h stops =
       let others = put_fields (codes ", ") fs rest in
       four (field f (codes ": " ++ put_type t others) h.0 (stops_at_mark marks.Colon)) (mark_space marks.Colon (put_type t others)) (a_type n t others h.1 (fields_stop fs rest stops)) (other_fields n fs rest h.2 stops)
 
-  pub some_fields : (n : ℕ) (fs : FieldTrees) (rest : List ℕ) → HasFields fs → AreWritableFields n fs → Stops in_word rest → Spelt (AreFields n fs) (put_fields [] fs rest) rest
+  pub some_fields : (n : ℕ) (fs : TermFields) (rest : List ℕ) → HasFields fs → AreWritableFields n fs → Stops in_word rest → Spelt (AreFields n fs) (put_fields [] fs rest) rest
   some_fields n no_fields rest some h stops = absurd some
   some_fields n (more_fields f t fs) rest some h stops =
       let others = put_fields (codes ", ") fs rest in
       four (field f (codes ": " ++ put_type t others) h.0 (stops_at_mark marks.Colon)) (mark_space marks.Colon (put_type t others)) (a_type n t others h.1 (fields_stop fs rest stops)) (other_fields n fs rest h.2 stops)
 
-  pub other_fields : (n : ℕ) (fs : FieldTrees) (rest : List ℕ) → AreWritableFields n fs → Stops in_word rest → Spelt (OtherFields n fs) (put_fields (codes ", ") fs rest) rest
+  pub other_fields : (n : ℕ) (fs : TermFields) (rest : List ℕ) → AreWritableFields n fs → Stops in_word rest → Spelt (OtherFields n fs) (put_fields (codes ", ") fs rest) rest
   other_fields n no_fields rest h stops = nothing
   other_fields n (more_fields f t fs) rest h stops =
       let others = put_fields (codes ", ") fs rest in
@@ -124,7 +124,7 @@ mutual
   a_lens (suc n) (inv_of l) rest h stops = two (word_space words.Inv (put_lens l rest)) (a_lens n l rest h stops)
   a_lens (suc n) (named_lens m) rest h stops = mentioned sorts.Lens m rest h stops
 
-  pub perhaps_rows : (n : ℕ) (rows : RowTrees) (rest : List ℕ) → AreWritableRows n rows → Stops in_word rest → Spelt (PerhapsRows n rows) (put_rows [] rows rest) rest
+  pub perhaps_rows : (n : ℕ) (rows : TermRows) (rest : List ℕ) → AreWritableRows n rows → Stops in_word rest → Spelt (PerhapsRows n rows) (put_rows [] rows rest) rest
   perhaps_rows n no_rows rest h stops = nothing
   perhaps_rows n (both f g l rows) rest h stops =
       let others = put_rows (codes ", ") rows rest in
@@ -140,7 +140,7 @@ mutual
       five (word_space words.Right (put_name f (codes ": " ++ put_type t others))) (field f (codes ": " ++ put_type t others) h.0 (stops_at_mark marks.Colon)) (mark_space marks.Colon (put_type t others))
       (a_type n t others h.1 (rows_stop rows rest stops)) (other_rows n rows rest h.2 stops)
 
-  pub other_rows : (n : ℕ) (rows : RowTrees) (rest : List ℕ) → AreWritableRows n rows → Stops in_word rest → Spelt (OtherRows n rows) (put_rows (codes ", ") rows rest) rest
+  pub other_rows : (n : ℕ) (rows : TermRows) (rest : List ℕ) → AreWritableRows n rows → Stops in_word rest → Spelt (OtherRows n rows) (put_rows (codes ", ") rows rest) rest
   other_rows n no_rows rest h stops = nothing
   other_rows n (both f g l rows) rest h stops =
       let others = put_rows (codes ", ") rows rest in
@@ -156,7 +156,7 @@ mutual
       six (mark_space marks.Comma (codes "right " ++ put_name f (codes ": " ++ put_type t others))) (word_space words.Right (put_name f (codes ": " ++ put_type t others)))
       (field f (codes ": " ++ put_type t others) h.0 (stops_at_mark marks.Colon)) (mark_space marks.Colon (put_type t others)) (a_type n t others h.1 (rows_stop rows rest stops)) (other_rows n rows rest h.2 stops)
 
-  pub some_arms : (n : ℕ) (arms : ArmTrees) (rest : List ℕ) → HasArms arms → AreWritableArms n arms → Stops in_word rest → Spelt (AreArms n arms) (put_arms [] arms rest) rest
+  pub some_arms : (n : ℕ) (arms : TermArms) (rest : List ℕ) → HasArms arms → AreWritableArms n arms → Stops in_word rest → Spelt (AreArms n arms) (put_arms [] arms rest) rest
   some_arms n no_arms rest some h stops = absurd some
   some_arms n (more_arms f g l arms) rest some h stops =
       let others = put_arms (codes ", ") arms rest in
@@ -164,7 +164,7 @@ mutual
       six (field f (codes " ~ " ++ put_name g right) h.0 stops_at_space) (space_mark_space marks.Tilde (put_name g right)) (field g right h.1 (stops_at_mark marks.Colon)) (mark_space marks.Colon (put_lens l others))
       (a_lens n l others h.2 (arms_stop arms rest stops)) (other_arms n arms rest h.3 stops)
 
-  pub other_arms : (n : ℕ) (arms : ArmTrees) (rest : List ℕ) → AreWritableArms n arms → Stops in_word rest → Spelt (OtherArms n arms) (put_arms (codes ", ") arms rest) rest
+  pub other_arms : (n : ℕ) (arms : TermArms) (rest : List ℕ) → AreWritableArms n arms → Stops in_word rest → Spelt (OtherArms n arms) (put_arms (codes ", ") arms rest) rest
   other_arms n no_arms rest h stops = nothing
   other_arms n (more_arms f g l arms) rest h stops =
       let others = put_arms (codes ", ") arms rest in

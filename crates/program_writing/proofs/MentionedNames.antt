@@ -4,7 +4,7 @@ use Rattle.std.proofs.lemmas.List.{map-append}
 use Rattle.program_tokens.specs.declared.token.Token.{Token}
 use Rattle.program_tokens.specs.declared.token.Token.TheVariants as tokens
 use Rattle.program_tokens.specs.declared.token.PlacedToken.{PlacedToken}
-use Rattle.program_terms.specs.Terms.{TypeTree, FieldTrees, unit, bool, int, text, enum_of, record_of, one_of, list, keyed, tree, named, no_fields, more_fields, LensTree, id_of, bij_of, disc_of, then_of, rec_lens, alt_lens, each_of, keyed_each, tree_each, part_of, inv_of, named_lens, RowTrees, no_rows, both, only_left, only_right, ArmTrees, no_arms, more_arms, DefTree, type_def, lens_def, initial_number, initial_text, initial_member, initial_left}
+use Rattle.program_terms.specs.Terms.{TypeTree, TermFields, unit, bool, int, text, enum_of, record_of, one_of, list, keyed, tree, named, no_fields, more_fields, LensTree, id_of, bij_of, disc_of, then_of, rec_lens, alt_lens, each_of, keyed_each, tree_each, part_of, inv_of, named_lens, TermRows, no_rows, both, only_left, only_right, TermArms, no_arms, more_arms, DefTree, type_def, lens_def, initial_number, initial_text, initial_member, initial_left}
 use Rattle.program_grammar.specs.declared.mention.Sort.{Sort}
 use Rattle.program_grammar.specs.declared.mention.Sort.TheVariants as sorts
 use Rattle.program_grammar.specs.declared.mention.Mention.{Mention}
@@ -30,7 +30,7 @@ abbrev mutual
   type_names (tree t) = type_names t
   type_names (named m) = (sorts.Type, m) ∷ []
 
-  pub fields_names : FieldTrees → List (Sort × List ℕ)
+  pub fields_names : TermFields → List (Sort × List ℕ)
   fields_names no_fields = []
   fields_names (more_fields f t fs) = type_names t ++ fields_names fs
 
@@ -49,13 +49,13 @@ abbrev mutual
   lens_names (inv_of l) = lens_names l
   lens_names (named_lens m) = (sorts.Lens, m) ∷ []
 
-  pub rows_names : RowTrees → List (Sort × List ℕ)
+  pub rows_names : TermRows → List (Sort × List ℕ)
   rows_names no_rows = []
   rows_names (both f g l rows) = lens_names l ++ rows_names rows
   rows_names (only_left f t rows) = type_names t ++ rows_names rows
   rows_names (only_right f t rows) = type_names t ++ rows_names rows
 
-  pub arms_names : ArmTrees → List (Sort × List ℕ)
+  pub arms_names : TermArms → List (Sort × List ℕ)
   arms_names no_arms = []
   arms_names (more_arms f g l arms) = lens_names l ++ arms_names arms
 
@@ -128,15 +128,15 @@ mutual
   a_type (suc n) (tree t) a b h = over h.1 (a_type n t h.0 b h.2)
   a_type (suc n) (named m) a b h = mentioned sorts.Type m a b h
 
-  perhaps_fields : (n : ℕ) (fs : FieldTrees) (a b : Point) → PerhapsFields n fs a b → Adds (fields_names fs) a b
+  perhaps_fields : (n : ℕ) (fs : TermFields) (a b : Point) → PerhapsFields n fs a b → Adds (fields_names fs) a b
   perhaps_fields n no_fields a b h = nothing a b h
   perhaps_fields n (more_fields f t fs) a b h = over_field f a h.0 h.3 (over h.4 (two (a_type n t h.1 h.2 h.5) (other_fields n fs h.2 b h.6)))
 
-  some_fields : (n : ℕ) (fs : FieldTrees) (a b : Point) → AreFields n fs a b → Adds (fields_names fs) a b
+  some_fields : (n : ℕ) (fs : TermFields) (a b : Point) → AreFields n fs a b → Adds (fields_names fs) a b
   some_fields n no_fields a b h = absurd h
   some_fields n (more_fields f t fs) a b h = over_field f a h.0 h.3 (over h.4 (two (a_type n t h.1 h.2 h.5) (other_fields n fs h.2 b h.6)))
 
-  other_fields : (n : ℕ) (fs : FieldTrees) (a b : Point) → OtherFields n fs a b → Adds (fields_names fs) a b
+  other_fields : (n : ℕ) (fs : TermFields) (a b : Point) → OtherFields n fs a b → Adds (fields_names fs) a b
   other_fields n no_fields a b h = nothing a b h
   other_fields n (more_fields f t fs) a b h = over h.4 (over_field f h.0 h.1 h.5 (over h.6 (two (a_type n t h.2 h.3 h.7) (other_fields n fs h.3 b h.8))))
 
@@ -158,23 +158,23 @@ mutual
   a_lens (suc n) (inv_of l) a b h = over h.1 (a_lens n l h.0 b h.2)
   a_lens (suc n) (named_lens m) a b h = mentioned sorts.Lens m a b h
 
-  perhaps_rows : (n : ℕ) (rows : RowTrees) (a b : Point) → PerhapsRows n rows a b → Adds (rows_names rows) a b
+  perhaps_rows : (n : ℕ) (rows : TermRows) (a b : Point) → PerhapsRows n rows a b → Adds (rows_names rows) a b
   perhaps_rows n no_rows a b h = nothing a b h
   perhaps_rows n (both f g l rows) a b h = over_field f a h.0 h.5 (over h.6 (over_field g h.1 h.2 h.7 (over h.8 (two (a_lens n l h.3 h.4 h.9) (other_rows n rows h.4 b h.10)))))
   perhaps_rows n (only_left f t rows) a b h = over h.4 (over_field f h.0 h.1 h.5 (over h.6 (two (a_type n t h.2 h.3 h.7) (other_rows n rows h.3 b h.8))))
   perhaps_rows n (only_right f t rows) a b h = over h.4 (over_field f h.0 h.1 h.5 (over h.6 (two (a_type n t h.2 h.3 h.7) (other_rows n rows h.3 b h.8))))
 
-  other_rows : (n : ℕ) (rows : RowTrees) (a b : Point) → OtherRows n rows a b → Adds (rows_names rows) a b
+  other_rows : (n : ℕ) (rows : TermRows) (a b : Point) → OtherRows n rows a b → Adds (rows_names rows) a b
   other_rows n no_rows a b h = nothing a b h
   other_rows n (both f g l rows) a b h = over h.6 (over_field f h.0 h.1 h.7 (over h.8 (over_field g h.2 h.3 h.9 (over h.10 (two (a_lens n l h.4 h.5 h.11) (other_rows n rows h.5 b h.12))))))
   other_rows n (only_left f t rows) a b h = over h.5 (over h.6 (over_field f h.1 h.2 h.7 (over h.8 (two (a_type n t h.3 h.4 h.9) (other_rows n rows h.4 b h.10)))))
   other_rows n (only_right f t rows) a b h = over h.5 (over h.6 (over_field f h.1 h.2 h.7 (over h.8 (two (a_type n t h.3 h.4 h.9) (other_rows n rows h.4 b h.10)))))
 
-  some_arms : (n : ℕ) (arms : ArmTrees) (a b : Point) → AreArms n arms a b → Adds (arms_names arms) a b
+  some_arms : (n : ℕ) (arms : TermArms) (a b : Point) → AreArms n arms a b → Adds (arms_names arms) a b
   some_arms n no_arms a b h = absurd h
   some_arms n (more_arms f g l arms) a b h = over_field f a h.0 h.5 (over h.6 (over_field g h.1 h.2 h.7 (over h.8 (two (a_lens n l h.3 h.4 h.9) (other_arms n arms h.4 b h.10)))))
 
-  other_arms : (n : ℕ) (arms : ArmTrees) (a b : Point) → OtherArms n arms a b → Adds (arms_names arms) a b
+  other_arms : (n : ℕ) (arms : TermArms) (a b : Point) → OtherArms n arms a b → Adds (arms_names arms) a b
   other_arms n no_arms a b h = nothing a b h
   other_arms n (more_arms f g l arms) a b h = over h.6 (over_field f h.0 h.1 h.7 (over h.8 (over_field g h.2 h.3 h.9 (over h.10 (two (a_lens n l h.4 h.5 h.11) (other_arms n arms h.5 b h.12))))))
 

@@ -8,7 +8,7 @@ use Rattle.program_tokens.specs.declared.token.Token.TheVariants as tokens
 use Rattle.program_tokens.specs.declared.token.PlacedToken.{PlacedToken}
 use Rattle.program_tokens.proofs.StringTexts.{name_is_text}
 use Rattle.program_tokens.proofs.TokenForms.{IsSound, AreSound, sound}
-use Rattle.program_terms.specs.Terms.{TypeTree, FieldTrees, unit, bool, int, text, enum_of, record_of, one_of, list, keyed, tree, named, no_fields, more_fields, LensTree, id_of, bij_of, disc_of, then_of, rec_lens, alt_lens, each_of, keyed_each, tree_each, part_of, inv_of, named_lens, RowTrees, no_rows, both, only_left, only_right, ArmTrees, no_arms, more_arms, DefTree, type_def, lens_def, initial_number, initial_text, initial_member, initial_left}
+use Rattle.program_terms.specs.Terms.{TypeTree, TermFields, unit, bool, int, text, enum_of, record_of, one_of, list, keyed, tree, named, no_fields, more_fields, LensTree, id_of, bij_of, disc_of, then_of, rec_lens, alt_lens, each_of, keyed_each, tree_each, part_of, inv_of, named_lens, TermRows, no_rows, both, only_left, only_right, TermArms, no_arms, more_arms, DefTree, type_def, lens_def, initial_number, initial_text, initial_member, initial_left}
 use Rattle.program_grammar.specs.declared.mention.Sort.{Sort}
 use Rattle.program_grammar.specs.Mentions.{Point, NotedDefinition, NotedProgram, definition_without_notes, without_notes}
 use Rattle.program_grammar.specs.Spelling.{Is, IsMention, IsField, OtherStrings, AreStrings, OtherPairs, ArePairs, IsInitial, IsType, PerhapsFields, AreFields, OtherFields, IsLens, PerhapsRows, OtherRows, AreArms, OtherArms, IsStatement, IsDefinition, AreDefinitions, IsProgram}
@@ -129,15 +129,15 @@ mutual
   a_type (suc n) (tree t) a b h = over h.1 (a_type n t h.0 b h.2)
   a_type (suc n) (named m) a b h = mentioned h
 
-  perhaps_fields : (n : ℕ) (fs : FieldTrees) (a b : Point) → PerhapsFields n fs a b → Keeps (AreWritableFields n fs) a b
+  perhaps_fields : (n : ℕ) (fs : TermFields) (a b : Point) → PerhapsFields n fs a b → Keeps (AreWritableFields n fs) a b
   perhaps_fields n no_fields a b h = nothing a b h
   perhaps_fields n (more_fields f t fs) a b h = three (field f a h.0 h.3) (over h.4 (a_type n t h.1 h.2 h.5)) (other_fields n fs h.2 b h.6)
 
-  some_fields : (n : ℕ) (fs : FieldTrees) (a b : Point) → AreFields n fs a b → Keeps (HasFields fs × AreWritableFields n fs) a b
+  some_fields : (n : ℕ) (fs : TermFields) (a b : Point) → AreFields n fs a b → Keeps (HasFields fs × AreWritableFields n fs) a b
   some_fields n no_fields a b h = absurd h
   some_fields n (more_fields f t fs) a b h = some (three (field f a h.0 h.3) (over h.4 (a_type n t h.1 h.2 h.5)) (other_fields n fs h.2 b h.6))
 
-  other_fields : (n : ℕ) (fs : FieldTrees) (a b : Point) → OtherFields n fs a b → Keeps (AreWritableFields n fs) a b
+  other_fields : (n : ℕ) (fs : TermFields) (a b : Point) → OtherFields n fs a b → Keeps (AreWritableFields n fs) a b
   other_fields n no_fields a b h = nothing a b h
   other_fields n (more_fields f t fs) a b h = over h.4 (three (field f h.0 h.1 h.5) (over h.6 (a_type n t h.2 h.3 h.7)) (other_fields n fs h.3 b h.8))
 
@@ -159,23 +159,23 @@ mutual
   a_lens (suc n) (inv_of l) a b h = over h.1 (a_lens n l h.0 b h.2)
   a_lens (suc n) (named_lens m) a b h = mentioned h
 
-  perhaps_rows : (n : ℕ) (rows : RowTrees) (a b : Point) → PerhapsRows n rows a b → Keeps (AreWritableRows n rows) a b
+  perhaps_rows : (n : ℕ) (rows : TermRows) (a b : Point) → PerhapsRows n rows a b → Keeps (AreWritableRows n rows) a b
   perhaps_rows n no_rows a b h = nothing a b h
   perhaps_rows n (both f g l rows) a b h = four (field f a h.0 h.5) (over h.6 (field g h.1 h.2 h.7)) (over h.8 (a_lens n l h.3 h.4 h.9)) (other_rows n rows h.4 b h.10)
   perhaps_rows n (only_left f t rows) a b h = over h.4 (three (field f h.0 h.1 h.5) (over h.6 (a_type n t h.2 h.3 h.7)) (other_rows n rows h.3 b h.8))
   perhaps_rows n (only_right f t rows) a b h = over h.4 (three (field f h.0 h.1 h.5) (over h.6 (a_type n t h.2 h.3 h.7)) (other_rows n rows h.3 b h.8))
 
-  other_rows : (n : ℕ) (rows : RowTrees) (a b : Point) → OtherRows n rows a b → Keeps (AreWritableRows n rows) a b
+  other_rows : (n : ℕ) (rows : TermRows) (a b : Point) → OtherRows n rows a b → Keeps (AreWritableRows n rows) a b
   other_rows n no_rows a b h = nothing a b h
   other_rows n (both f g l rows) a b h = over h.6 (four (field f h.0 h.1 h.7) (over h.8 (field g h.2 h.3 h.9)) (over h.10 (a_lens n l h.4 h.5 h.11)) (other_rows n rows h.5 b h.12))
   other_rows n (only_left f t rows) a b h = over h.5 (over h.6 (three (field f h.1 h.2 h.7) (over h.8 (a_type n t h.3 h.4 h.9)) (other_rows n rows h.4 b h.10)))
   other_rows n (only_right f t rows) a b h = over h.5 (over h.6 (three (field f h.1 h.2 h.7) (over h.8 (a_type n t h.3 h.4 h.9)) (other_rows n rows h.4 b h.10)))
 
-  some_arms : (n : ℕ) (arms : ArmTrees) (a b : Point) → AreArms n arms a b → Keeps (HasArms arms × AreWritableArms n arms) a b
+  some_arms : (n : ℕ) (arms : TermArms) (a b : Point) → AreArms n arms a b → Keeps (HasArms arms × AreWritableArms n arms) a b
   some_arms n no_arms a b h = absurd h
   some_arms n (more_arms f g l arms) a b h = some (four (field f a h.0 h.5) (over h.6 (field g h.1 h.2 h.7)) (over h.8 (a_lens n l h.3 h.4 h.9)) (other_arms n arms h.4 b h.10))
 
-  other_arms : (n : ℕ) (arms : ArmTrees) (a b : Point) → OtherArms n arms a b → Keeps (AreWritableArms n arms) a b
+  other_arms : (n : ℕ) (arms : TermArms) (a b : Point) → OtherArms n arms a b → Keeps (AreWritableArms n arms) a b
   other_arms n no_arms a b h = nothing a b h
   other_arms n (more_arms f g l arms) a b h = over h.6 (four (field f h.0 h.1 h.7) (over h.8 (field g h.2 h.3 h.9)) (over h.10 (a_lens n l h.4 h.5 h.11)) (other_arms n arms h.5 b h.12))
 

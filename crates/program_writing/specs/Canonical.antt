@@ -5,10 +5,10 @@ use Rattle.std.specs.Fmt.{signed_decimal}
 use Rattle.std.specs.Ordering.{int_eq}
 use lib.IntN.{ℤ}
 use Rattle.program_tokens.specs.Words.{is_name}
-use Rattle.program_terms.specs.Terms.{TypeTree, FieldTrees, unit, bool, int, text, enum_of, record_of, one_of, list}
+use Rattle.program_terms.specs.Terms.{TypeTree, TermFields, unit, bool, int, text, enum_of, record_of, one_of, list}
 use Rattle.program_terms.specs.Terms.{keyed, tree, named, no_fields, more_fields, LensTree, id_of, bij_of, disc_of}
 use Rattle.program_terms.specs.Terms.{then_of, rec_lens, alt_lens, each_of, keyed_each, tree_each, part_of, inv_of}
-use Rattle.program_terms.specs.Terms.{named_lens, RowTrees, no_rows, both, only_left, only_right, ArmTrees, no_arms}
+use Rattle.program_terms.specs.Terms.{named_lens, TermRows, no_rows, both, only_left, only_right, TermArms, no_arms}
 use Rattle.program_terms.specs.Terms.{more_arms, DefTree, type_def, lens_def, ProgramTree, initial_number}
 use Rattle.program_terms.specs.Terms.{initial_text, initial_member, initial_left}
 use Rattle.doc_values.specs.Types.{TyTree, ty_unit, ty_bool, ty_int, ty_text, ty_enum, ty_rec, ty_alt, ty_list}
@@ -58,7 +58,7 @@ abbrev mutual
   put_type (named n) rest = put_name n rest
 
   -- a record's fields, or tags, each with its type
-  pub put_fields : List ℕ → FieldTrees → List ℕ → List ℕ
+  pub put_fields : List ℕ → TermFields → List ℕ → List ℕ
   put_fields before no_fields rest = rest
   put_fields before (more_fields f t fs) rest =
       before ++ put_name f (codes ": " ++ put_type t (put_fields (codes ", ") fs rest))
@@ -79,7 +79,7 @@ abbrev mutual
   put_lens (inv_of l) rest = codes "inv " ++ put_lens l rest
   put_lens (named_lens n) rest = put_name n rest
 
-  pub put_rows : List ℕ → RowTrees → List ℕ → List ℕ
+  pub put_rows : List ℕ → TermRows → List ℕ → List ℕ
   put_rows before no_rows rest = rest
   put_rows before (both f g l rows) rest =
       before ++ put_name f (codes " ~ " ++ put_name g (codes ": " ++ put_lens l (put_rows (codes ", ") rows rest)))
@@ -88,7 +88,7 @@ abbrev mutual
   put_rows before (only_right f t rows) rest =
       before ++ (codes "right " ++ put_name f (codes ": " ++ put_type t (put_rows (codes ", ") rows rest)))
 
-  pub put_arms : List ℕ → ArmTrees → List ℕ → List ℕ
+  pub put_arms : List ℕ → TermArms → List ℕ → List ℕ
   put_arms before no_arms rest = rest
   put_arms before (more_arms f g l arms) rest =
       before ++ put_name f (codes " ~ " ++ put_name g (codes ": " ++ put_lens l (put_arms (codes ", ") arms rest)))
@@ -120,7 +120,7 @@ abbrev mutual
   term_of_type (ty_keyed t) = keyed (term_of_type t)
   term_of_type (ty_ordered t) = tree (term_of_type t)
 
-  pub terms_of_fields : of_documents.FieldTrees → FieldTrees
+  pub terms_of_fields : of_documents.FieldTrees → TermFields
   terms_of_fields of_documents.no_fields = no_fields
   terms_of_fields (of_documents.more_fields f t fs) = more_fields f (term_of_type t) (terms_of_fields fs)
 

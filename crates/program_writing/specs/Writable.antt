@@ -4,10 +4,10 @@ use Rattle.std.specs.Prelude.{◌≡◌, ◌⊎◌, ◌<◌, ◌^◌, ℕ, zero,
 use lib.IntN.{ℤ}
 use lib.Signed.{mag}
 use Rattle.program_tokens.specs.Words.{is_name, is_text}
-use Rattle.program_terms.specs.Terms.{TypeTree, FieldTrees, unit, bool, int, text, enum_of, record_of, one_of, list}
+use Rattle.program_terms.specs.Terms.{TypeTree, TermFields, unit, bool, int, text, enum_of, record_of, one_of, list}
 use Rattle.program_terms.specs.Terms.{keyed, tree, named, no_fields, more_fields, LensTree, id_of, bij_of, disc_of}
 use Rattle.program_terms.specs.Terms.{then_of, rec_lens, alt_lens, each_of, keyed_each, tree_each, part_of, inv_of}
-use Rattle.program_terms.specs.Terms.{named_lens, RowTrees, no_rows, both, only_left, only_right, ArmTrees, no_arms}
+use Rattle.program_terms.specs.Terms.{named_lens, TermRows, no_rows, both, only_left, only_right, TermArms, no_arms}
 use Rattle.program_terms.specs.Terms.{more_arms, DefTree, type_def, lens_def, ProgramTree}
 use Rattle.doc_values.specs.Types.{TyTree, ty_unit, ty_bool, ty_int, ty_text, ty_enum, ty_rec, ty_alt, ty_list}
 use Rattle.doc_values.specs.Types.{ty_keyed, ty_ordered}
@@ -41,11 +41,11 @@ abbrev pub IsNotEmpty : {A : Type 0} → List A → Type 0
 IsNotEmpty [] = ⊥
 IsNotEmpty (x ∷ xs) = Unit {0}
 
-abbrev pub HasFields : FieldTrees → Type 0
+abbrev pub HasFields : TermFields → Type 0
 HasFields no_fields = ⊥
 HasFields (more_fields f t fs) = Unit {0}
 
-abbrev pub HasArms : ArmTrees → Type 0
+abbrev pub HasArms : TermArms → Type 0
 HasArms no_arms = ⊥
 HasArms (more_arms f g l arms) = Unit {0}
 
@@ -66,7 +66,7 @@ abbrev mutual
   IsWritableType (suc n) (tree t) = IsWritableType n t
   IsWritableType (suc n) (named m) = IsName m
 
-  pub AreWritableFields : ℕ → FieldTrees → Type 0
+  pub AreWritableFields : ℕ → TermFields → Type 0
   AreWritableFields n no_fields = Unit {0}
   AreWritableFields n (more_fields f t fs) = IsText f × IsWritableType n t × AreWritableFields n fs
 
@@ -87,13 +87,13 @@ abbrev mutual
   IsWritableLens (suc n) (inv_of l) = IsWritableLens n l
   IsWritableLens (suc n) (named_lens m) = IsName m
 
-  pub AreWritableRows : ℕ → RowTrees → Type 0
+  pub AreWritableRows : ℕ → TermRows → Type 0
   AreWritableRows n no_rows = Unit {0}
   AreWritableRows n (both f g l rows) = IsText f × IsText g × IsWritableLens n l × AreWritableRows n rows
   AreWritableRows n (only_left f t rows) = IsText f × IsWritableType n t × AreWritableRows n rows
   AreWritableRows n (only_right f t rows) = IsText f × IsWritableType n t × AreWritableRows n rows
 
-  pub AreWritableArms : ℕ → ArmTrees → Type 0
+  pub AreWritableArms : ℕ → TermArms → Type 0
   AreWritableArms n no_arms = Unit {0}
   AreWritableArms n (more_arms f g l arms) = IsText f × IsText g × IsWritableLens n l × AreWritableArms n arms
 

@@ -6,7 +6,7 @@ use Rattle.program_tokens.specs.declared.mark.Mark.TheVariants.{Equals, CloseBra
 use Rattle.program_tokens.specs.declared.token.Token.{Token}
 use Rattle.program_tokens.specs.declared.token.Token.TheVariants as tokens
 use Rattle.program_tokens.specs.declared.token.PlacedToken.{PlacedToken}
-use Rattle.program_terms.specs.Terms.{TypeTree, LensTree, RowTree, row_both, row_left, row_right, RowTrees, no_rows, both, only_left, only_right, term_rows_of, row_list, ArmTrees, no_arms, more_arms, term_arms_of, arm_list}
+use Rattle.program_terms.specs.Terms.{TypeTree, LensTree, RowTree, row_both, row_left, row_right, TermRows, no_rows, both, only_left, only_right, term_rows_of, row_list, TermArms, no_arms, more_arms, term_arms_of, arm_list}
 use Rattle.program_grammar.specs.declared.mention.Mention.{Mention}
 use Rattle.program_grammar.specs.Mentions.{Point}
 use Rattle.program_grammar.specs.Reading.{Read, next_is, word_in, next_word, string_at, field_at, typed_at, closed_at, perhaps_at, pair_at, arm_at, left_row_at, right_row_at, both_row_at, row_by, row_at}
@@ -91,11 +91,11 @@ pub listed_are_arms : (n : ℕ) (xs : List (List ℕ × List ℕ × LensTree)) (
 listed_are_arms n [] here there h = h
 listed_are_arms n (x ∷ xs) here there h = (h.1.0, h.1.1, h.1.2, h.1.3, h.0, h.1.4, h.1.5, h.1.6, h.1.7, h.1.8, others_are_arms n xs h.0 there h.2)
 
-arms_are_others : (n : ℕ) (arms : ArmTrees) (here there : Point) → OtherArms n arms here there → Others (IsArm n) (arm_list arms) here there
+arms_are_others : (n : ℕ) (arms : TermArms) (here there : Point) → OtherArms n arms here there → Others (IsArm n) (arm_list arms) here there
 arms_are_others n no_arms here there h = h
 arms_are_others n (more_arms f g l arms) here there h = (h.0, h.5, h.6, (h.1, h.2, h.3, h.4, h.7, h.8, h.9, h.10, h.11), arms_are_others n arms h.5 there h.12)
 
-pub arms_are_listed : (n : ℕ) (arms : ArmTrees) (here there : Point) → AreArms n arms here there → Listed (IsArm n) (arm_list arms) here there
+pub arms_are_listed : (n : ℕ) (arms : TermArms) (here there : Point) → AreArms n arms here there → Listed (IsArm n) (arm_list arms) here there
 arms_are_listed n no_arms here there h = h
 arms_are_listed n (more_arms f g l arms) here there h = (h.4, (h.0, h.1, h.2, h.3, h.5, h.6, h.7, h.8, h.9), arms_are_others n arms h.4 there h.10)
 
@@ -182,14 +182,14 @@ others_are_rows n (row_both f g l ∷ rs) here there h = (h.0, h.3.0, h.3.1, h.3
 others_are_rows n (row_left f t ∷ rs) here there h = (h.0, h.3.0, h.3.2.0, h.3.2.1, h.1, h.2, h.3.1, h.3.2.2, h.3.2.3, h.3.2.4, others_are_rows n rs h.1 there h.4)
 others_are_rows n (row_right f t ∷ rs) here there h = (h.0, h.3.0, h.3.2.0, h.3.2.1, h.1, h.2, h.3.1, h.3.2.2, h.3.2.3, h.3.2.4, others_are_rows n rs h.1 there h.4)
 
-rows_are_others : (n : ℕ) (rows : RowTrees) (here there : Point) → OtherRows n rows here there → Others (IsRow n) (row_list rows) here there
+rows_are_others : (n : ℕ) (rows : TermRows) (here there : Point) → OtherRows n rows here there → Others (IsRow n) (row_list rows) here there
 rows_are_others n no_rows here there h = h
 rows_are_others n (both f g l rows) here there h = (h.0, h.5, h.6, (h.1, h.2, h.3, h.4, h.7, h.8, h.9, h.10, h.11), rows_are_others n rows h.5 there h.12)
 rows_are_others n (only_left f t rows) here there h = (h.0, h.4, h.5, (h.1, h.6, (h.2, h.3, h.7, h.8, h.9)), rows_are_others n rows h.4 there h.10)
 rows_are_others n (only_right f t rows) here there h = (h.0, h.4, h.5, (h.1, h.6, (h.2, h.3, h.7, h.8, h.9)), rows_are_others n rows h.4 there h.10)
 
 -- rows and the brace behind them
-abbrev pub BracedRows : ℕ → RowTrees → Point → Point → Type 0
+abbrev pub BracedRows : ℕ → TermRows → Point → Point → Type 0
 BracedRows n rows here there = (a : Point) × PerhapsRows n rows here a × Is (tokens.Mark CloseBrace) a there
 
 pub perhaps_are_rows : (n : ℕ) (rs : List RowTree) (here there : Point) → Perhaps (IsRow n) CloseBrace rs here there → BracedRows n (term_rows_of rs) here there
@@ -201,7 +201,7 @@ perhaps_are_rows n (row_left f t ∷ rs) here there h =
 perhaps_are_rows n (row_right f t ∷ rs) here there h =
     let r = h.1 in (h.0, (r.1.0, r.1.2.0, r.1.2.1, r.0, r.1.1, r.1.2.2, r.1.2.3, r.1.2.4, others_are_rows n rs r.0 h.0 r.2), h.2)
 
-pub rows_are_perhaps : (n : ℕ) (rows : RowTrees) (here there : Point) → BracedRows n rows here there → Perhaps (IsRow n) CloseBrace (row_list rows) here there
+pub rows_are_perhaps : (n : ℕ) (rows : TermRows) (here there : Point) → BracedRows n rows here there → Perhaps (IsRow n) CloseBrace (row_list rows) here there
 rows_are_perhaps n no_rows here there h = subst (λ p. Is (tokens.Mark CloseBrace) p there) (sym h.1) h.2
 rows_are_perhaps n (both f g l rows) here there h =
     let r = h.1 in (h.0, (r.4, (r.0, r.1, r.2, r.3, r.5, r.6, r.7, r.8, r.9), rows_are_others n rows r.4 h.0 r.10), h.2)

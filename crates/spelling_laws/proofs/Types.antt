@@ -8,7 +8,7 @@ use Rattle.program_tokens.specs.declared.mark.Mark.TheVariants as marks
 use Rattle.program_tokens.specs.declared.token.Token.{Token}
 use Rattle.program_tokens.specs.declared.token.Token.TheVariants as tokens
 use Rattle.program_tokens.specs.declared.token.PlacedToken.{PlacedToken}
-use Rattle.program_terms.specs.Terms.{TypeTree, FieldTrees, unit, bool, int, text, enum_of, record_of, one_of, list, keyed, tree, named, no_fields, more_fields, term_fields_of, type_field_list, initial_number, initial_text, initial_member}
+use Rattle.program_terms.specs.Terms.{TypeTree, TermFields, unit, bool, int, text, enum_of, record_of, one_of, list, keyed, tree, named, no_fields, more_fields, term_fields_of, type_field_list, initial_number, initial_text, initial_member}
 use Rattle.program_grammar.specs.declared.mention.Mention.{Mention}
 use Rattle.program_grammar.specs.declared.mention.Sort.TheVariants as sorts
 use Rattle.program_terms.proofs.TreeLists.{term_fields_of-field_list}
@@ -76,22 +76,22 @@ pub listed_are_fields : (n : ℕ) (fs : List (List ℕ × TypeTree)) (here there
 listed_are_fields n [] here there h = h
 listed_are_fields n (f ∷ fs) here there h = (h.1.0, h.1.1, h.0, h.1.2, h.1.3, h.1.4, others_are_fields n fs h.0 there h.2)
 
-fields_are_others : (n : ℕ) (fs : FieldTrees) (here there : Point) → OtherFields n fs here there → Others (Typed (IsType n)) (type_field_list fs) here there
+fields_are_others : (n : ℕ) (fs : TermFields) (here there : Point) → OtherFields n fs here there → Others (Typed (IsType n)) (type_field_list fs) here there
 fields_are_others n no_fields here there h = h
 fields_are_others n (more_fields f t fs) here there h = (h.0, h.3, h.4, (h.1, h.2, h.5, h.6, h.7), fields_are_others n fs h.3 there h.8)
 
-pub fields_are_listed : (n : ℕ) (fs : FieldTrees) (here there : Point) → AreFields n fs here there → Listed (Typed (IsType n)) (type_field_list fs) here there
+pub fields_are_listed : (n : ℕ) (fs : TermFields) (here there : Point) → AreFields n fs here there → Listed (Typed (IsType n)) (type_field_list fs) here there
 fields_are_listed n no_fields here there h = h
 fields_are_listed n (more_fields f t fs) here there h = (h.2, (h.0, h.1, h.3, h.4, h.5), fields_are_others n fs h.2 there h.6)
 
-abbrev BracedFields : ℕ → FieldTrees → Point → Point → Type 0
+abbrev BracedFields : ℕ → TermFields → Point → Point → Type 0
 BracedFields n fs here there = (a : Point) × PerhapsFields n fs here a × Is (tokens.Mark CloseBrace) a there
 
 perhaps_are_fields : (n : ℕ) (fs : List (List ℕ × TypeTree)) (here there : Point) → Perhaps (Typed (IsType n)) CloseBrace fs here there → BracedFields n (term_fields_of fs) here there
 perhaps_are_fields n [] here there h = (here, refl, h)
 perhaps_are_fields n (f ∷ fs) here there h = (h.0, listed_are_fields n (f ∷ fs) here h.0 h.1, h.2)
 
-fields_are_perhaps : (n : ℕ) (fs : FieldTrees) (here there : Point) → BracedFields n fs here there → Perhaps (Typed (IsType n)) CloseBrace (type_field_list fs) here there
+fields_are_perhaps : (n : ℕ) (fs : TermFields) (here there : Point) → BracedFields n fs here there → Perhaps (Typed (IsType n)) CloseBrace (type_field_list fs) here there
 fields_are_perhaps n no_fields here there h = subst (λ p. Is (tokens.Mark CloseBrace) p there) (sym h.1) h.2
 fields_are_perhaps n (more_fields f t fs) here there h = (h.0, fields_are_listed n (more_fields f t fs) here h.0 h.1, h.2)
 

@@ -1,7 +1,7 @@
 use Rattle.std.proofs.Common.{◌<◌, ◌+◌, length, map, ap, sym, ◌∙◌, subst, arith}
 use Rattle.std.specs.Prelude.{option_map}
 use Rattle.std.proofs.lemmas.Bool.Decides.{nat_tests}
-use Rattle.program_terms.specs.Terms.{FieldTrees}
+use Rattle.program_terms.specs.Terms.{TermFields}
 use Rattle.program_terms.specs.Views.{fields_tree}
 use Rattle.lens_types.specs.Checking.{repeated_tag}
 use Rattle.lens_types.specs.Earlier.{expanded_fields, partition}
@@ -23,7 +23,7 @@ returns c =
     let sides : SideHeights = record { left = c.next_height-height.result; right = c.next_height-height.result } in
     let highest = c.fields_height.ensures ∙ ap (λ fs. capped (highest (expanded_fields ds fs))) (sym same) in
     let twice = c.next_height-height.ensures ∙ ap (λ h. capped (h + 1)) c.next_height.ensures in
-    let P : FieldTrees → Type 0 = λ fs. HasHeights (partition (expanded_fields ds fs)) sides in
+    let P : TermFields → Type 0 = λ fs. HasHeights (partition (expanded_fields ds fs)) sides in
     let heights = subst P same (partition_heights ds c.as_slice-2.result.now sides c.fields_height.result some highest twice twice) in
     let low : IsLowForm (partition (expanded_fields ds fields)) c.low_sides-2.result = c.low_sides-2.ensures (partition (expanded_fields ds fields)) heights in
     let names = ap (map sided) c.deref.ensures.value ∙ c.in_ok-field_names.ensures ∙ ap field_names c.as_slice.ensures in
