@@ -16,16 +16,16 @@ EDITLENS = [
     ("`gen`", "Generates", ["Generates"]),
     ("`init`", "MakesStore", ["MakesStore"]),
     ("`import`", "ImportsStore", ["ImportsStore"]),
-    ("`apply`", "Applies", ["GoesOn", "Applies"]),
+    ("`apply`", "Applies", ["StoreGoesOn", "Applies"]),
     ("`show`, `verify`", "Shows", ["ReadsStore"]),
-    ("`pack`", "Packs", ["Keeps", "Packs"]),
-    ("`undo`", "Undoes", ["TakesBack", "Undoes"]),
+    ("`pack`", "Packs", ["KeepsPair", "Packs"]),
+    ("`undo`", "Undoes", ["TakesChangesBack", "Undoes"]),
 ]
 EDITHUB = [
     ("`init`", "MakesHub", ["MakesHub"]),
-    ("`apply`", "HubApplies", ["GoesOn", "HubApplies"]),
+    ("`apply`", "HubApplies", ["HubGoesOn", "HubApplies"]),
     ("`show`, `verify`", "HubShows", ["ReadsHub"]),
-    ("`pack`", "HubPacks", ["Keeps", "HubPacks"]),
+    ("`pack`", "HubPacks", ["KeepsHub", "HubPacks"]),
     ("`undo`", "HubUndoes", ["TakesHubBack", "HubUndoes"]),
     ("`add`", "HubAdds", ["AddsOn", "HubAdds"]),
 ]

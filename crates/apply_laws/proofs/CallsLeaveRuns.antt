@@ -22,10 +22,10 @@ use Rattle.store_session.proofs.JournalRuns.{runs_alike}
 use Rattle.store_session.proofs.StatesInStep.{stored_sound}
 use Rattle.store_run.specs.Devices.{Devices}
 use Rattle.store_run.specs.ApplyCall.{ContinuesCall, IsSafeCall}
-use Rattle.store_run.specs.StoreRuns.{run, last, kept_of, text_of}
+use Rattle.store_run.specs.StoreRuns.{run_in_store, last_stored, kept_of, text_of}
 use Rattle.store_run.specs.declared.session.StoredAnswer.{StoredAnswer}
-use Rattle.editlens_main.specs.Applies.{Applies, Unopened}
-use Rattle.editlens_main.specs.Stores.{Store}
+use Rattle.editlens_main.specs.Applies.{Applies, UnopenedApply}
+use Rattle.editlens_main.specs.Stores.{PairStore}
 use Rattle.command_ends.specs.declared.status.Status.{Status}
 use Rattle.apply_laws.specs.StoreRuns.{StoreParts, with_version, HoldsRun}
 use Rattle.apply_laws.specs.TwoCalls.{parts_of, LeavesRun, FinishesRun, StaysUnopened, ContinuesRun}
@@ -34,7 +34,7 @@ use Rattle.apply_laws.proofs.RunsOverStores.{journal_in_step, one_run}
 
 -- ---- a run of the session is a run over the store
 
-module _ (before : StoreParts) (lines : List Line) (steps : List (StoredState × StoredAnswer)) (is_run : run sessions before.state 0 lines ≡ Some steps) where
+module _ (before : StoreParts) (lines : List Line) (steps : List (StoredState × StoredAnswer)) (is_run : run_in_store sessions before.state 0 lines ≡ Some steps) where
   pub sound : (is_typed before.state.form ≡ true) × IsStateInStep before.state
   sound = stored_sound before.payloads before.state before.version before.stands
 
@@ -42,7 +42,7 @@ module _ (before : StoreParts) (lines : List Line) (steps : List (StoredState ×
   journal_run = runs_alike (λ (s : StoreSession). session_state s.session) before.state 0 lines steps sound.0 sound.1 is_run
 
   -- the payloads stand for the last state of the run
-  abbrev pub holds_run : (after : StoreParts) → after.state ≡ last before.state steps → with_version after ≡ with_version before ++ kept_of steps
+  abbrev pub holds_run : (after : StoreParts) → after.state ≡ last_stored before.state steps → with_version after ≡ with_version before ++ kept_of steps
       → (after.payloads ≡ before.payloads) ⊎ (after.version ≡ None) → HoldsRun before (items_of lines) after
   holds_run after at_last stored version =
       let j = journal_run in
@@ -67,7 +67,7 @@ module _ {S K D : Type 0} (source : OfSource.Ghosts S) (sink : OfSink.Ghosts K) 
     left_run : (lines rest : List Line) → lines_of bytes ≡ lines ++ rest → LeavesPayloads sessions before.payloads before.state before.version lines given image
         → LeavesRun source sink disk old new before image
     left_run lines rest parts p =
-        let after : StoreParts = record { payloads = p.payloads; state = last before.state p.steps; version = p.still; stands = p.stands } in
+        let after : StoreParts = record { payloads = p.payloads; state = last_stored before.state p.steps; version = p.still; stands = p.stands } in
         let count = kept_count before p.run_of.first p.steps p.run_of.is_run in
         let least = p.least in
         let most = p.most in
@@ -87,11 +87,11 @@ module _ {S K D : Type 0} (source : OfSource.Ghosts S) (sink : OfSink.Ghosts K) 
         }
 
   -- a call that did not open the store leaves no image that was not possible before
-  was_possible : (status : Status) → Unopened source sink disk old new status → (image : List ℕ) → disk.images new.disk image → disk.images old.disk image
+  was_possible : (status : Status) → UnopenedApply source sink disk old new status → (image : List ℕ) → disk.images new.disk image → disk.images old.disk image
   was_possible status (inl failed) image is = failed.1.only image is
   was_possible status (inr never) image is = subst (λ (x : Devices S K D). disk.images x.disk image) never.1 is
 
-  module _ (status : Status) (store : Store disk old.disk) where
+  module _ (status : Status) (store : PairStore disk old.disk) where
     abbrev before : StoreParts
     before = parts_of disk old.disk store
 
@@ -112,7 +112,7 @@ module _ {S K D : Type 0} (source : OfSource.Ghosts S) (sink : OfSink.Ghosts K) 
     -- the call came to its end
     finished : ContinuesCall source sink disk sessions (old.source, old.sink) new store.payloads store.state store.version status → FinishesRun source sink disk old new before
     finished s =
-        let after : StoreParts = record { payloads = with_version before ++ kept_of s.steps; state = last before.state s.steps; version = None; stands = s.stand } in
+        let after : StoreParts = record { payloads = with_version before ++ kept_of s.steps; state = last_stored before.state s.steps; version = None; stands = s.stand } in
         let lines = lines_of s.bytes in
         let j = journal_run before lines s.steps s.is_run in
         record {
@@ -126,8 +126,8 @@ module _ {S K D : Type 0} (source : OfSource.Ghosts S) (sink : OfSink.Ghosts K) 
           gave = subst (λ text. Gave sink old.sink new.sink text) (text_is s.steps j) s.given;
         } where
           text_is : (steps : List (StoredState × StoredAnswer)) (j : IsJournalRun before.state 0 (lines_of s.bytes) steps)
-              → text_of steps ++ state_text (last before.state steps) ≡ text_from before.state.form before.state.triple j.journal
-          text_is steps j = ap (λ l. l ++ state_text (last before.state steps)) j.text ∙ ap (λ u. answer_lines 1 j.journal ++ state_text u) j.at_last
+              → text_of steps ++ state_text (last_stored before.state steps) ≡ text_from before.state.form before.state.triple j.journal
+          text_is steps j = ap (λ l. l ++ state_text (last_stored before.state steps)) j.text ∙ ap (λ u. answer_lines 1 j.journal ++ state_text u) j.at_last
 
     pub finishes_run : Applies source sink disk old new status → IsFinished status → FinishesRun source sink disk old new before
     finishes_run a h = finished ((a.of_store store).continues h)
@@ -138,7 +138,7 @@ module _ {S K D : Type 0} (source : OfSource.Ghosts S) (sink : OfSink.Ghosts K) 
   -- the second call is over the store that the first one left
   module _ (old new : Devices S K D) (status : Status) (before between : StoreParts) (items : List JournalItem) (first : HoldsRun before items between) (image : List ℕ)
       (holds : HoldsPayloads between.payloads image) (told : disk.content old.disk ≡ Some image) (second : Applies source sink disk old new status) where
-    abbrev again : Store disk old.disk
+    abbrev again : PairStore disk old.disk
     again = record { bytes = image; told = told; payloads = between.payloads; holds = holds; state = between.state; version = between.version; stands = between.stands }
 
     goes_on : ContinuesRun source sink disk old new status first
@@ -152,7 +152,7 @@ module _ {S K D : Type 0} (source : OfSource.Ghosts S) (sink : OfSink.Ghosts K) 
           (run, one_run before between run.after items (items_of (lines_of run.bytes)) first run.run);
     }
 
-  module _ (old1 new1 old2 new2 : Devices S K D) (status1 status2 : Status) (store : Store disk old1.disk) (image : List ℕ) (first : Applies source sink disk old1 new1 status1)
+  module _ (old1 new1 old2 new2 : Devices S K D) (status1 status2 : Status) (store : PairStore disk old1.disk) (image : List ℕ) (first : Applies source sink disk old1 new1 status1)
       (second : Applies source sink disk old2 new2 status2) (told : disk.content old2.disk ≡ Some image) where
     abbrev start : StoreParts
     start = parts_of disk old1.disk store

@@ -14,13 +14,13 @@ use Rattle.lens_io.specs.declared.source.Source as OfSource
 use Rattle.store_session.specs.Journals.{accepted_changes}
 use Rattle.store_run.specs.Devices.{Devices}
 use Rattle.store_run.specs.OkLines.{ok_lines}
-use Rattle.editlens_main.specs.Applies.{Unopened}
-use Rattle.editlens_main.specs.Stores.{Store}
+use Rattle.editlens_main.specs.Applies.{UnopenedApply}
+use Rattle.editlens_main.specs.Stores.{PairStore}
 use Rattle.command_ends.specs.declared.status.Status.{Status}
 use Rattle.apply_laws.specs.StoreRuns.{StoreParts, HoldsRun, AreOneRun}
 
 -- the parts of the store on a disk
-abbrev pub parts_of : {D : Type 0} (disk : OfDisk.Ghosts D) (d : D) → Store disk d → StoreParts
+abbrev pub parts_of : {D : Type 0} (disk : OfDisk.Ghosts D) (d : D) → PairStore disk d → StoreParts
 parts_of disk d store = record {
   payloads = store.payloads;
   state = store.state;
@@ -65,7 +65,7 @@ module _ {S K D : Type 0} (source : OfSource.Ghosts S) (sink : OfSink.Ghosts K) 
 
   -- A call failed to open the store. The image that it left was possible before it, and nothing was taken or written.
   pub record StaysUnopened (old new : Devices S K D) (status : Status) (image : List ℕ) : Type 0 where
-    pub unopened : Unopened source sink disk old new status
+    pub unopened : UnopenedApply source sink disk old new status
     pub was : disk.images old.disk image
 
   -- A first call made this run, over these items from the store `before` to the store `between`. A second call over

@@ -1,5 +1,5 @@
 -- What `apply` promises of a hub. What the call comes to, what was written and stored at each status, what a crash
--- leaves and when a line is answered is defined in store_run. Read it from the end: `HubApplies`, then `GoesOn`.
+-- leaves and when a line is answered is defined in store_run. Read it from the end: `HubApplies`, then `HubGoesOn`.
 use Rattle.command_ends.specs.Statuses.{IsFinished}
 use Rattle.std.specs.Prelude.{◌≡◌, ◌⊎◌}
 use Rattle.lens_io.specs.Calls.{IsUnasked, SourceFailed, SinkFailed, DiskFailed}
@@ -8,7 +8,7 @@ use Rattle.lens_io.specs.declared.sink.Sink as OfSink
 use Rattle.lens_io.specs.declared.source.Source as OfSource
 use Rattle.store_run.specs.Devices.{Devices}
 use Rattle.store_run.specs.ApplyCall.{ContinuesCall, IsUnopened, IsSafeCall, EndsCall}
-use Rattle.store_run.specs.InTime.{AnswersInTime}
+use Rattle.store_run.specs.InTime.{StoreAnswersInTime}
 use Rattle.store_run.specs.Rooms.{most_bytes, TakesTooMany, RunHasNoRoom, IsApplyCause}
 use Rattle.hub_session.specs.contracts.instance.HubSessionStoredSession.TheImpl.{ghosts as hubs}
 use Rattle.edithub_main.specs.HubStores.{HubStore, RefusedHub, HubStaysInStep, RefusesHub}
@@ -18,11 +18,11 @@ use Rattle.command_ends.specs.declared.status.Status.TheVariants.{DiskFault, NoM
 module _ {S K D : Type 0} (source : OfSource.Ghosts S) (sink : OfSink.Ghosts K) (disk : OfDisk.Ghosts D)
     (old new : Devices S K D) (status : Status) where
   -- the store was not opened, and nothing has changed
-  abbrev pub Unopened : Type 0
-  Unopened = (status ≡ DiskFault) × IsUnopened source sink disk old new
+  abbrev pub UnopenedHubApply : Type 0
+  UnopenedHubApply = (status ≡ DiskFault) × IsUnopened source sink disk old new
 
   -- over the store of a hub
-  pub record GoesOn (store : HubStore disk old.disk) : Type 0 where
+  pub record HubGoesOn (store : HubStore disk old.disk) : Type 0 where
     -- at its end the journal was read to its end; the answers of the run from the stored hub were written, and then
     -- its last state. The accepted changes are stored in order behind what was there, and the store represents the last
     -- hub.
@@ -32,13 +32,13 @@ module _ {S K D : Type 0} (source : OfSource.Ghosts S) (sink : OfSink.Ghosts K) 
     pub in_step : HubStaysInStep store.state
     -- At every status: every line that had ended when the source was called last was answered, and its answer written,
     -- or the source was not called. After SourceFault and InputTooLong every line that has ended is answered.
-    pub in_time : AnswersInTime source sink hubs (old.source, old.sink) (new.source, new.sink) store.state status
+    pub in_time : StoreAnswersInTime source sink hubs (old.source, old.sink) (new.source, new.sink) store.state status
     -- what was taken, written and stored at every status
     pub stops : EndsCall source sink disk hubs old new store.payloads store.state store.version status
     -- At the end of the call, whatever its status, an image of a crash has each change whose `ok` line was written, and
     -- at most one more. An image of any moment of the call was possible before it, or holds what was stored before and
     -- the first of the changes that follow.
-    pub survives : Unopened
+    pub survives : UnopenedHubApply
         ⊎ IsSafeCall source sink disk hubs old new (disk.images old.disk) store.payloads store.state store.version
     -- after StoreRefused the log had no room for a payload of the run, after DiskFault the disk had none if its room is
     -- known, and after InputTooLong too many bytes were taken
@@ -52,7 +52,7 @@ module _ {S K D : Type 0} (source : OfSource.Ghosts S) (sink : OfSink.Ghosts K) 
         → IsFinished status ⊎ (status ≡ NoMemory)
 
   pub record HubApplies : Type 0 where
-    pub of_store : (store : HubStore disk old.disk) → GoesOn store
+    pub of_store : (store : HubStore disk old.disk) → HubGoesOn store
     -- over bytes that are no store of a hub the line `store refused: REASON` was written, unless a device failed or
     -- memory ran out; nothing is written to the disk, and the source is not called
     pub refuses : (other : RefusedHub disk old.disk)

@@ -20,14 +20,14 @@ use Rattle.store_run.specs.Devices.{Devices}
 
 module _ {S K D : Type 0} (source : OfSource.Ghosts S) (sink : OfSink.Ghosts K) (disk : OfDisk.Ghosts D)
     (old new : Devices S K D) (status : Status) where
-  abbrev pub EndsOrder : HubOrder → Type 0
-  EndsOrder order.Init = MakesHub source sink disk old new status
-  EndsOrder order.Apply = HubApplies source sink disk old new status
-  EndsOrder order.Show = HubShows sink disk (old.sink, old.disk) (new.sink, new.disk) status
-  EndsOrder order.Verify = HubVerifies sink disk (old.sink, old.disk) (new.sink, new.disk) status
-  EndsOrder order.Pack = HubPacks sink disk (old.sink, old.disk) (new.sink, new.disk) status
-  EndsOrder (order.Undo count) = HubUndoes count sink disk (old.sink, old.disk) (new.sink, new.disk) status
-  EndsOrder order.Add = HubAdds source sink disk old new status
+  abbrev pub EndsHubOrder : HubOrder → Type 0
+  EndsHubOrder order.Init = MakesHub source sink disk old new status
+  EndsHubOrder order.Apply = HubApplies source sink disk old new status
+  EndsHubOrder order.Show = HubShows sink disk (old.sink, old.disk) (new.sink, new.disk) status
+  EndsHubOrder order.Verify = HubVerifies sink disk (old.sink, old.disk) (new.sink, new.disk) status
+  EndsHubOrder order.Pack = HubPacks sink disk (old.sink, old.disk) (new.sink, new.disk) status
+  EndsHubOrder (order.Undo count) = HubUndoes count sink disk (old.sink, old.disk) (new.sink, new.disk) status
+  EndsHubOrder order.Add = HubAdds source sink disk old new status
 
 -- the statuses of a command; and of words that name none
 abbrev pub hub_statuses_of : Option HubOrder → List Status

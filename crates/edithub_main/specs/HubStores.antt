@@ -9,7 +9,7 @@ use Rattle.hub_run.specs.FormLenses.{form_lens}
 use Rattle.hub_run.specs.Runs.{HubState}
 use Rattle.hub_session.specs.contracts.instance.HubSessionStoredSession.TheImpl.{ghosts as hubs}
 use Rattle.store_run.specs.Refusals.{IsUnwritten, EndsRefused}
-use Rattle.store_run.specs.StoreRuns.{run}
+use Rattle.store_run.specs.StoreRuns.{run_in_store}
 use Rattle.store_run.specs.Stores as stores
 use Rattle.store_run.specs.declared.session.StoredAnswer.{StoredAnswer}
 use Rattle.store_run.specs.declared.refusals.StoreRefusal.{StoreRefusal}
@@ -30,7 +30,7 @@ IsHubStateInStep state = IsHub form_lens state.forms state.hub
 -- The state is in step, and so is every state of a run of a journal from it on.
 pub record HubStaysInStep (state : HubState) : Type 0 where
   pub first : IsHubStateInStep state
-  pub runs : (lines : List Line) (steps : List (HubState × StoredAnswer)) → run hubs state 0 lines ≡ Some steps
+  pub runs : (lines : List Line) (steps : List (HubState × StoredAnswer)) → run_in_store hubs state 0 lines ≡ Some steps
       → All (λ step. IsHubStateInStep step.0) steps
 
 module _ {K D : Type 0} (sink : OfSink.Ghosts K) (disk : OfDisk.Ghosts D) (old new : K × D) (status : Status) where

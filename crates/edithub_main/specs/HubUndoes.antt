@@ -5,10 +5,10 @@ use Rattle.lens_io.specs.Calls.{SinkFailed, DiskFailed}
 use Rattle.lens_io.specs.declared.disk.Disk as OfDisk
 use Rattle.lens_io.specs.declared.sink.Sink as OfSink
 use Rattle.store_run.specs.Rooms.{most_bytes}
-use Rattle.store_run.specs.MoreCall.{IsUntouched, Exits}
+use Rattle.store_run.specs.MoreCall.{IsUntouched, ExitsMore}
 use Rattle.store_run.specs.MoreCauses.{OneHasNoRoom, IsMoreCause}
 use Rattle.hub_undo.specs.HubUndoing.{hub_undo_snapshot_text, hub_undo_text}
-use Rattle.hub_undo.specs.UndoCall.{HubToUndo, IsSafeUndo, RefusedToUndo, UndoesCall}
+use Rattle.hub_undo.specs.UndoCall.{HubToUndo, IsSafeHubUndo, RefusedHubToUndo, HubUndoesCall}
 use Rattle.edithub_main.specs.HubStores.{RefusesHub}
 use Rattle.command_ends.specs.declared.status.Status.{Status}
 use Rattle.command_ends.specs.declared.status.Status.TheVariants.{Done, DiskFault, NoMemory}
@@ -16,21 +16,21 @@ use Rattle.command_ends.specs.declared.status.Status.TheVariants.{Done, DiskFaul
 module _ (count : ℕ) {K D : Type 0} (sink : OfSink.Ghosts K) (disk : OfDisk.Ghosts D) (old new : K × D)
     (status : Status) where
   -- the store was not opened, and nothing has changed
-  abbrev pub Unopened : Type 0
-  Unopened = (status ≡ DiskFault) × IsUntouched sink disk old new
+  abbrev pub UnopenedHubUndo : Type 0
+  UnopenedHubUndo = (status ≡ DiskFault) × IsUntouched sink disk old new
 
   -- over a store whose last records, so many as the count says, are of changes, which can be undone
   pub record TakesHubBack (store : HubToUndo disk count old.1) : Type 0 where
     -- At its end the store holds one more snapshot, of the hub before the last changes, and the lines were written.
     -- That hub is in step, the store represents it, and the words that were written take each document back.
-    pub continues : status ≡ Done → UndoesCall sink disk old new store.payloads store.undone
+    pub continues : status ≡ Done → HubUndoesCall sink disk old new store.payloads store.undone
     -- what was written and stored at every status
-    pub stops : Exits sink disk old new store.payloads (hub_undo_snapshot_text store.undone)
+    pub stops : ExitsMore sink disk old new store.payloads (hub_undo_snapshot_text store.undone)
         (hub_undo_text store.undone)
         status
     -- an image of a crash, at each moment of the call and at its end, was possible before the call, or represents the
     -- hub before the last changes or the one from before the call
-    pub survives : Unopened ⊎ IsSafeUndo disk old.1 new.1 store.payloads store.undone
+    pub survives : UnopenedHubUndo ⊎ IsSafeHubUndo disk old.1 new.1 store.payloads store.undone
     -- after StoreRefused the log had no room for the snapshot, and after DiskFault the disk had none if its room is
     -- known
     pub caused : IsMoreCause disk old.1 store.payloads (hub_undo_snapshot_text store.undone) status
@@ -43,4 +43,4 @@ module _ (count : ℕ) {K D : Type 0} (sink : OfSink.Ghosts K) (disk : OfDisk.Gh
     pub of_store : (store : HubToUndo disk count old.1) → TakesHubBack store
     -- over any other bytes the line `store refused: REASON` was written, unless a device failed or memory ran out;
     -- nothing is written to the disk. The reason is `nothing-to-undo` if they are a store.
-    pub refuses : (other : RefusedToUndo disk count old.1) → RefusesHub sink disk old new status other.reason
+    pub refuses : (other : RefusedHubToUndo disk count old.1) → RefusesHub sink disk old new status other.reason

@@ -3,7 +3,7 @@ ghost use Rattle.std.specs.Prelude.{◌≡◌, ℕ, Some, None, false};
 ghost use Rattle.lens_io.specs.Calls.{SourceFailed, SinkFailed, DiskFailed};
 ghost use Rattle.edithub_main.specs.HubAdds.{HubAdds};
 ghost use Rattle.edithub_main.specs.HubApplies.{HubApplies};
-ghost use Rattle.edithub_main.specs.HubEnds.{EndsOrder, GivesHubUsage, HubLeavesAlone, HubMayEnd};
+ghost use Rattle.edithub_main.specs.HubEnds.{EndsHubOrder, GivesHubUsage, HubLeavesAlone, HubMayEnd};
 ghost use Rattle.store_run.specs.Devices.{devices_of};
 ghost use Rattle.store_run.specs.FaultCauses.{FaultsAreCaused};
 ghost use Rattle.edithub_main.specs.HubOrders.{hub_order_named, hub_reads_source, hub_uses_disk};
@@ -83,7 +83,7 @@ fn run_order<S: Source, K: Sink, D: Disk>(
     sink: &mut K,
     disk: &mut D,
 ) -> Status
-    ensures ends { EndsOrder S.Source K.Sink D.Disk
+    ensures ends { EndsHubOrder S.Source K.Sink D.Disk
         (devices_of source.old sink.old disk.old) (devices_of source.new sink.new disk.new) result order }
     ensures statuses { HubMayEnd (Some order) result }
     ensures unread { hub_reads_source (Some order) ≡ false → source.new ≡ source.old }

@@ -10,7 +10,7 @@ use Rattle.editlens_main.specs.ImportsStore.{ImportsStore}
 use Rattle.editlens_main.specs.MakesStore.{MakesStore}
 use Rattle.editlens_main.specs.Packs.{Packs}
 use Rattle.editlens_main.specs.Runs.{Runs, Checks, RunsHub, RunsLink}
-use Rattle.editlens_main.specs.Shows.{Shows, Verifies}
+use Rattle.editlens_main.specs.Shows.{ShowsStore, Verifies}
 use Rattle.editlens_main.specs.Undoes.{Undoes}
 use Rattle.command_ends.specs.declared.status.Status.{Status}
 use Rattle.store_run.specs.Devices.{Devices}
@@ -24,7 +24,7 @@ module _ {S K D : Type 0} (source : OfSource.Ghosts S) (sink : OfSink.Ghosts K) 
   EndsOrder order.Init = MakesStore source sink disk old new status
   EndsOrder order.Import = ImportsStore source sink disk old new status
   EndsOrder order.Apply = Applies source sink disk old new status
-  EndsOrder order.Show = Shows sink disk (old.sink, old.disk) (new.sink, new.disk) status
+  EndsOrder order.Show = ShowsStore sink disk (old.sink, old.disk) (new.sink, new.disk) status
   EndsOrder order.Verify = Verifies sink disk (old.sink, old.disk) (new.sink, new.disk) status
   EndsOrder order.Pack = Packs sink disk (old.sink, old.disk) (new.sink, new.disk) status
   EndsOrder (order.Undo count) = Undoes count sink disk (old.sink, old.disk) (new.sink, new.disk) status

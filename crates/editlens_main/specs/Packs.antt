@@ -1,24 +1,25 @@
--- What `pack` promises. Read it from the end: `Packs`, then `Keeps`.
+-- What `pack` promises. Read it from the end: `Packs`, then `KeepsPair`.
 use Rattle.command_ends.specs.Statuses.{IsFinished}
 use Rattle.std.specs.Prelude.{◌≡◌, ◌⊎◌}
 use Rattle.lens_io.specs.Calls.{SinkFailed, DiskFailed}
 use Rattle.lens_io.specs.declared.disk.Disk as OfDisk
 use Rattle.lens_io.specs.declared.sink.Sink as OfSink
-use Rattle.store_run.specs.PackCall.{PacksCall, IsUnpacked, IsSafePack, EndsPack}
+use Rattle.store_run.specs.MoreCall.{IsUntouched}
+use Rattle.store_run.specs.PackCall.{PacksCall, IsSafePack, EndsPack}
 use Rattle.store_run.specs.Rooms.{most_bytes, PackHasNoRoom, IsPackCause}
 use Rattle.store_session.specs.Journals.{IsStateInStep}
 use Rattle.store_session.specs.contracts.instance.StoreSessionStoredSession.TheImpl.{ghosts as sessions}
-use Rattle.editlens_main.specs.Stores.{Store, RefusedStore, RefusesStore}
+use Rattle.editlens_main.specs.Stores.{PairStore, RefusedPairStore, RefusesStore}
 use Rattle.command_ends.specs.declared.status.Status.{Status}
 use Rattle.command_ends.specs.declared.status.Status.TheVariants.{Done, DiskFault, NoMemory}
 
 module _ {K D : Type 0} (sink : OfSink.Ghosts K) (disk : OfDisk.Ghosts D) (old new : K × D) (status : Status) where
   -- the store was not opened: the disk failed, and nothing has changed; or memory ran out before any device was called
-  abbrev pub Unopened : Type 0
-  Unopened = (status ≡ DiskFault) × IsUnpacked sink disk old new ⊎ (status ≡ NoMemory) × (new ≡ old)
+  abbrev pub UnopenedPack : Type 0
+  UnopenedPack = (status ≡ DiskFault) × IsUntouched sink disk old new ⊎ (status ≡ NoMemory) × (new ≡ old)
 
   -- over a store
-  pub record Keeps (store : Store disk old.1) : Type 0 where
+  pub record KeepsPair (store : PairStore disk old.1) : Type 0 where
     -- at its end a snapshot is stored, and the store represents the same state with the same number of changes
     pub continues : IsFinished status → PacksCall sink disk sessions old.0 new store.payloads store.state store.version
     -- the state of the store is in its lens's consistency relation
@@ -27,7 +28,7 @@ module _ {K D : Type 0} (sink : OfSink.Ghosts K) (disk : OfDisk.Ghosts D) (old n
     pub stops : EndsPack sink disk sessions old new store.payloads store.state store.version status
     -- an image of a crash, at each moment of the call and at its end, was possible before the call, or represents the
     -- same state
-    pub survives : Unopened
+    pub survives : UnopenedPack
         ⊎ IsSafePack disk sessions old.1 new.1 (disk.images old.1) store.payloads store.state store.version
     -- after StoreRefused the log had no room for what was to be stored, and after DiskFault the disk had none if its
     -- room is known
@@ -38,7 +39,7 @@ module _ {K D : Type 0} (sink : OfSink.Ghosts K) (disk : OfDisk.Ghosts D) (old n
         ⊎ (status ≡ NoMemory)
 
   pub record Packs : Type 0 where
-    pub of_store : (store : Store disk old.1) → Keeps store
+    pub of_store : (store : PairStore disk old.1) → KeepsPair store
     -- over bytes that are no store the line `store refused: REASON` was written, unless a device failed or memory ran
     -- out; nothing is written to the disk
-    pub refuses : (other : RefusedStore disk old.1) → RefusesStore sink disk old new status other.reason
+    pub refuses : (other : RefusedPairStore disk old.1) → RefusesStore sink disk old new status other.reason

@@ -9,13 +9,13 @@ use Rattle.store_run.specs.Refusals.{IsUnwritten}
 use Rattle.store_run.specs.ViewCall as call
 use Rattle.store_session.specs.Journals.{IsStateInStep}
 use Rattle.store_session.specs.StoredStates.{StoredState, changes_counted, state_text}
-use Rattle.editlens_main.specs.Stores.{Store, RefusedStore, RefusesStore}
+use Rattle.editlens_main.specs.Stores.{PairStore, RefusedPairStore, RefusesStore}
 use Rattle.command_ends.specs.declared.status.Status.{Status}
 use Rattle.command_ends.specs.declared.status.Status.TheVariants.{Done, DiskFault, NoMemory}
 
 -- what `show` writes of a state, and what `verify` writes of the payloads that stand for it
-abbrev pub shown : StoredState → List (List ℕ) → List ℕ
-shown state payloads = state_text state
+abbrev pub text_shown : StoredState → List (List ℕ) → List ℕ
+text_shown state payloads = state_text state
 
 abbrev pub verified : StoredState → List (List ℕ) → List ℕ
 verified state payloads = consistent_line (changes_counted payloads)
@@ -25,15 +25,15 @@ module _ {K D : Type 0} (sink : OfSink.Ghosts K) (disk : OfDisk.Ghosts D) (old n
   pub record ReadsStore (text : StoredState → List (List ℕ) → List ℕ) : Type 0 where
     -- over a store `show` has written its state lines, and `verify` the number of its changes; or the sink failed at
     -- them, or the disk failed or memory ran out before
-    pub reports : (store : Store disk old.1) → call.Views sink old.0 new.0 (text store.state store.payloads) status
+    pub reports : (store : PairStore disk old.1) → call.Views sink old.0 new.0 (text store.state store.payloads) status
     -- the state of the store is in its lens's consistency relation
-    pub in_step : (store : Store disk old.1) → IsStateInStep store.state
+    pub in_step : (store : PairStore disk old.1) → IsStateInStep store.state
     -- over a store it comes to its end, or memory runs out, if no device fails
-    pub completes : Store disk old.1 → (SinkFailed sink old.0 new.0 → ⊥) → (DiskFailed disk old.1 new.1 → ⊥)
+    pub completes : PairStore disk old.1 → (SinkFailed sink old.0 new.0 → ⊥) → (DiskFailed disk old.1 new.1 → ⊥)
         → (status ≡ Done) ⊎ (status ≡ NoMemory)
     -- over bytes that are no store the line `store refused: REASON` was written, unless a device failed or memory ran
     -- out
-    pub refuses : (other : RefusedStore disk old.1) → RefusesStore sink disk old new status other.reason
+    pub refuses : (other : RefusedPairStore disk old.1) → RefusesStore sink disk old new status other.reason
     -- nothing is written to the disk
     pub unwritten : IsUnwritten disk old.1 new.1
     -- a crash leaves nothing new, at each moment of the call and at its end
@@ -41,8 +41,8 @@ module _ {K D : Type 0} (sink : OfSink.Ghosts K) (disk : OfDisk.Ghosts D) (old n
     -- a disk whose room is known never fails
     pub caused : status ≡ DiskFault → IsNone (disk.room old.1)
 
-  abbrev pub Shows : Type 0
-  Shows = ReadsStore shown
+  abbrev pub ShowsStore : Type 0
+  ShowsStore = ReadsStore text_shown
 
   abbrev pub Verifies : Type 0
   Verifies = ReadsStore verified

@@ -8,25 +8,26 @@ use Rattle.store_session.specs.Journals.{IsStateInStep, IsJournalRun}
 use Rattle.store_session.specs.StoredStates.{StoredState}
 use Rattle.store_session.specs.contracts.instance.StoreSessionStoredSession.TheImpl.{ghosts as sessions}
 use Rattle.store_run.specs.Refusals.{IsUnwritten, EndsRefused}
-use Rattle.store_run.specs.StoreRuns.{run}
+use Rattle.store_run.specs.StoreRuns.{run_in_store}
 use Rattle.store_run.specs.Stores as stores
 use Rattle.store_run.specs.declared.session.StoredAnswer.{StoredAnswer}
 use Rattle.store_run.specs.declared.refusals.StoreRefusal.{StoreRefusal}
 use Rattle.command_ends.specs.declared.status.Status.{Status}
 
 -- The bytes of the disk are known, and are a log of payloads that stand for a state of store_session.
-abbrev pub Store : {D : Type 0} → OfDisk.Ghosts D → D → Type 0
-Store disk d = stores.Store disk sessions d
+abbrev pub PairStore : {D : Type 0} → OfDisk.Ghosts D → D → Type 0
+PairStore disk d = stores.Store disk sessions d
 
 -- The bytes of the disk are known, and are refused as a store, for a reason.
-abbrev pub RefusedStore : {D : Type 0} → OfDisk.Ghosts D → D → Type 0
-RefusedStore disk d = stores.RefusedStore disk sessions d
+abbrev pub RefusedPairStore : {D : Type 0} → OfDisk.Ghosts D → D → Type 0
+RefusedPairStore disk d = stores.RefusedStore disk sessions d
 
 -- The state is in its lens's consistency relation. Each run of a journal from it on is the run of the journal's items,
 -- and all its states are in that relation.
 pub record StoreStaysInStep (state : StoredState) : Type 0 where
   pub first : IsStateInStep state
-  pub runs : (lines : List Line) (steps : List (StoredState × StoredAnswer)) → run sessions state 0 lines ≡ Some steps
+  pub runs : (lines : List Line) (steps : List (StoredState × StoredAnswer))
+      → run_in_store sessions state 0 lines ≡ Some steps
       → IsJournalRun state 0 lines steps
 
 module _ {K D : Type 0} (sink : OfSink.Ghosts K) (disk : OfDisk.Ghosts D) (old new : K × D) (status : Status) where

@@ -2,7 +2,7 @@
 -- the end of its room. Read it from the end: `MadeInRoom`, `StoredInRoom`, then `EndsInRoom`.
 use Rattle.std.specs.Prelude.{◌≡◌, ◌⊎◌, ℕ, List}
 use Rattle.store_new.specs.Command.{Command}
-use Rattle.store_new.specs.NewEnds.{IsComplete}
+use Rattle.store_new.specs.NewEnds.{IsCompleteCommand}
 use Rattle.store_run.specs.Rooms.{most_bytes}
 use Rattle.command_ends.specs.declared.status.Status.{Status}
 use Rattle.command_ends.specs.declared.status.Status.TheVariants.{StoreRefused, SinkFault, DiskFault}
@@ -23,4 +23,5 @@ module _ (status : Status) (is_full : Type 0) where
 
   -- The same of a command that makes a store of these bytes on an empty disk.
   abbrev pub MadeInRoom : Command → List ℕ → Type 0 → Type 0
-  MadeInRoom command bytes no_room = EndsInRoom (IsComplete command bytes status) ⊎ ((status ≡ DiskFault) × no_room)
+  MadeInRoom command bytes no_room =
+      EndsInRoom (IsCompleteCommand command bytes status) ⊎ ((status ≡ DiskFault) × no_room)

@@ -5,7 +5,7 @@ ghost use Rattle.std.specs.Prelude.{◌≡◌};
 ghost use Rattle.lens_io.specs.Calls.{SourceFailed, SinkFailed, DiskFailed};
 ghost use Rattle.editlens_main.specs.Applies.{Applies};
 ghost use Rattle.editlens_main.specs.Packs.{Packs};
-ghost use Rattle.editlens_main.specs.Shows.{Shows, Verifies};
+ghost use Rattle.editlens_main.specs.Shows.{ShowsStore, Verifies};
 ghost use Rattle.editlens_main.specs.Undoes.{Undoes};
 ghost use Rattle.store_run.specs.Devices.{devices_of};
 
@@ -35,7 +35,7 @@ pub fn run_apply<S: Source, K: Sink, D: Disk>(
 
 /// Shows the state of the store.
 pub fn run_show<K: Sink, D: Disk>(alloc: Global, sink: &mut K, disk: &mut D) -> Status
-    ensures shows { Shows K.Sink D.Disk (sink.old, disk.old) (sink.new, disk.new) result }
+    ensures shows { ShowsStore K.Sink D.Disk (sink.old, disk.old) (sink.new, disk.new) result }
     ensures statuses { IsStatusAmong quiet_statuses result }
     ensures sink_fault { result ≡ Status.SinkFault → SinkFailed K.Sink sink.old sink.new }
     ensures disk_fault { result ≡ Status.DiskFault → DiskFailed D.Disk disk.old disk.new }

@@ -16,7 +16,7 @@ ghost use Rattle.store_undo.specs.UndoCauses.{UndoHasNoRoom};
 ghost use Rattle.store_undo.specs.UndoStores.{StoreToUndo, RefusedToUndo};
 ghost use Rattle.store_run.specs.Rooms.{RunHasNoRoom, PackHasNoRoom};
 ghost use Rattle.editlens_main.specs.Commands.{order_named, uses_disk};
-ghost use Rattle.editlens_main.specs.Stores.{Store, RefusedStore};
+ghost use Rattle.editlens_main.specs.Stores.{PairStore, RefusedPairStore};
 ghost use Rattle.editlens_main.specs.SureEnds.{EndsInRoom, StoredInRoom, MadeInRoom};
 
 use crate::{Status, editlens};
@@ -87,12 +87,12 @@ pub fn run_sure(
         → MadeInRoom result (length sink.new.held ≡ sink.new.room) import_command source.old.left
         (ScriptHasNoRoom ⟦<SureSource as Source>⟧ import_command source.old source.new disk.old.room) }
     ensures views_sure { (order_named words.now ≡ Some Show) ⊎ (order_named words.now ≡ Some Verify)
-        → Store ⟦<SureDisk as Disk>⟧ disk.old
+        → PairStore ⟦<SureDisk as Disk>⟧ disk.old
         → EndsInRoom result (length sink.new.held ≡ sink.new.room)
         ((result ≡ Status.Done) ⊎ (result ≡ Status.NoMemory)) }
     ensures refused_sure { (order_named words.now ≡ Some Apply) ⊎ (order_named words.now ≡ Some Pack)
         ⊎ (order_named words.now ≡ Some Show) ⊎ (order_named words.now ≡ Some Verify)
-        → RefusedStore ⟦<SureDisk as Disk>⟧ disk.old
+        → RefusedPairStore ⟦<SureDisk as Disk>⟧ disk.old
         → EndsInRoom result (length sink.new.held ≡ sink.new.room)
         ((result ≡ Status.StoreRefused) ⊎ (result ≡ Status.NoMemory)) }
     ensures undo_refused_sure { (count : ℕ) → order_named words.now ≡ Some (Undo count)
@@ -100,12 +100,12 @@ pub fn run_sure(
         → EndsInRoom result (length sink.new.held ≡ sink.new.room)
         ((result ≡ Status.StoreRefused) ⊎ (result ≡ Status.NoMemory)) }
     ensures apply_sure { order_named words.now ≡ Some Apply → length source.old.left ≤ MOST_BYTES
-        → (store : Store ⟦<SureDisk as Disk>⟧ disk.old)
+        → (store : PairStore ⟦<SureDisk as Disk>⟧ disk.old)
         → StoredInRoom result (length sink.new.held ≡ sink.new.room) (IsFinished result ⊎ (result ≡ Status.NoMemory))
         (λ most. RunHasNoRoom ⟦<SureSource as Source>⟧ ⟦<StoreSession as StoredSession>⟧ source.old source.new most
         store.payloads store.state store.version) disk.old.room }
     ensures pack_sure { order_named words.now ≡ Some Pack
-        → (store : Store ⟦<SureDisk as Disk>⟧ disk.old)
+        → (store : PairStore ⟦<SureDisk as Disk>⟧ disk.old)
         → StoredInRoom result (length sink.new.held ≡ sink.new.room)
         ((result ≡ Status.Done) ⊎ (result ≡ Status.NoMemory))
         (λ most. PackHasNoRoom ⟦<StoreSession as StoredSession>⟧ most store.payloads store.state store.version)

@@ -13,7 +13,7 @@ ghost use Rattle.editlens_main.specs.MakesStore.{MakesStore};
 ghost use Rattle.editlens_main.specs.OrderEnds.{EndsOrder};
 ghost use Rattle.editlens_main.specs.Packs.{Packs};
 ghost use Rattle.editlens_main.specs.Runs.{Runs, Checks, RunsHub, RunsLink};
-ghost use Rattle.editlens_main.specs.Shows.{Shows, Verifies};
+ghost use Rattle.editlens_main.specs.Shows.{ShowsStore, Verifies};
 ghost use Rattle.editlens_main.specs.Statuses.{MayEnd};
 ghost use Rattle.editlens_main.specs.Top.{GivesUsage, LeavesAlone};
 ghost use Rattle.store_run.specs.Devices.{devices_of};
@@ -33,8 +33,8 @@ use std::alloc::Global;
 /// Does what the program's words say, with its input, its output and its store.
 ///
 /// There is a clause for each command, and it names a record: what the command promises, field by field, in a file of
-/// specs/ with the record's name (`Verifies` stands beside `Shows`; `run`, `check`, `hub` and `link` have one record,
-/// `RunsScript`, over what a script means to each). The fields have the same names everywhere:
+/// specs/ with the record's name (`ShowsStore` and `Verifies` are in one; `run`, `check`, `hub` and `link` have one
+/// record, `RunsScript`, over what a script means to each). The fields have the same names everywhere:
 ///
 /// - `reports` or `continues`, and `starts` and `brings` of the commands that make a store: what was read, written and
 ///   stored where the command came to its end, with the status `Done` or `SomeRefused`. `declines`: what `import` does
@@ -93,7 +93,7 @@ pub fn editlens<S: Source, K: Sink, D: Disk>(
         → Applies S.Source K.Sink D.Disk (devices_of source.old sink.old disk.old)
         (devices_of source.new sink.new disk.new) result }
     ensures show { order_named words.now ≡ Some Show
-        → Shows K.Sink D.Disk (sink.old, disk.old) (sink.new, disk.new) result }
+        → ShowsStore K.Sink D.Disk (sink.old, disk.old) (sink.new, disk.new) result }
     ensures verify { order_named words.now ≡ Some Verify
         → Verifies K.Sink D.Disk (sink.old, disk.old) (sink.new, disk.new) result }
     ensures pack { order_named words.now ≡ Some Pack

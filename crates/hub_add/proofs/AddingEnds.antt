@@ -20,8 +20,8 @@ use Rattle.hub_session.specs.HubStates.{hub_stands_for}
 use Rattle.hub_new.specs.HubReading.{RefusesViews}
 use Rattle.hub_new.proofs.HubsRead.{refuses_views}
 use Rattle.store_run.specs.Devices.{Devices, devices_of}
-use Rattle.store_run.specs.MoreCall.{Exits, IsImage, IsSafeMore, MoreEnds, StoresOne}
-use Rattle.store_run.specs.MoreCauses.{IsCauseInRoom, OneHasNoRoom}
+use Rattle.store_run.specs.MoreCall.{ExitsMore, IsImage, IsSafeMore, MoreEnds, StoresOne}
+use Rattle.store_run.specs.MoreCauses.{IsMoreCauseInRoom, OneHasNoRoom}
 use Rattle.store_run.proofs.MoreCalls as more
 use Rattle.store_run.proofs.MoreCauses.{more_cause}
 use Rattle.store_new.specs.NewEnds.{RefusesAtOnce, StopsAfter}
@@ -49,7 +49,7 @@ never_disk taking.NoMemory e = cc
 -- ---- behind calls of the disk that only read
 
 exits_behind : {K D : Type 0} (sink : OfSink.Ghosts K) (disk : OfDisk.Ghosts D) (k k' : K) (d0 d d' : D) (before : List (List ℕ)) (payload lines : List ℕ) (status : Status) → IsOpening disk d0 d
-    → Exits sink disk (k, d) (k', d') before payload lines status → Exits sink disk (k, d0) (k', d') before payload lines status
+    → ExitsMore sink disk (k, d) (k', d') before payload lines status → ExitsMore sink disk (k, d0) (k', d') before payload lines status
 exits_behind sink disk k k' d0 d d' before payload lines status first (inl e) =
     inl (record { d1 = e.d1; log = e.log; log' = e.log'; opens = opening_then disk d0 d e.d1 first e.opens; stands = e.stands; ends = e.ends })
 exits_behind sink disk k k' d0 d d' before payload lines status first (inr e) =
@@ -260,14 +260,14 @@ module _ {S K D : Type 0} (source : OfSource.Ghosts S) (sink : OfSink.Ghosts K) 
     no_room : (most : ℕ) (v : StoresView source sink disk (devices_of s k d) (devices_of s' k' d') before state status) → OneHasNoRoom most before (added_payload v.program) → ViewHasNoRoom source s s' before state most
     no_room most v h = record { bytes = v.bytes; took = v.took; read = v.read; program = v.program; form = v.form; accepted = v.accepted; no_room = h }
 
-    caused : (v : StoresView source sink disk (devices_of s k d) (devices_of s' k' d') before state status) → IsCauseInRoom (disk.room d) before (added_payload v.program) status
+    caused : (v : StoresView source sink disk (devices_of s k d) (devices_of s' k' d') before state status) → IsMoreCauseInRoom (disk.room d) before (added_payload v.program) status
     caused v = more_cause sink disk before (added_payload v.program) (hub_state_text (state_with_view state v.form v.hub)) k k' d d' bytes status told v.exits
 
     full : Ends (devices_of s k d) (devices_of s' k' d') status → status ≡ ending.StoreRefused → ViewHasNoRoom source s s' before state most_bytes
     full (inl f) is = elim f.fails.0.0 [ inl e ↦ cc | inr e ↦ cc ]
     full (inr (inl r)) is = absurd (subst (λ (x : Status). StopsAfter (view_part state.forms) r.bytes x) is r.stops)
     full (inr (inr (inl r))) is = elim r.given [ inl e ↦ let other = e.0 in cc | inr e ↦ let other = e.0 in cc ]
-    full (inr (inr (inr v))) is = no_room most_bytes v (subst (IsCauseInRoom (disk.room d) before (added_payload v.program)) is (caused v))
+    full (inr (inr (inr v))) is = no_room most_bytes v (subst (IsMoreCauseInRoom (disk.room d) before (added_payload v.program)) is (caused v))
 
     over : Ends (devices_of s k d) (devices_of s' k' d') status → status ≡ ending.DiskFault → IfSome (disk.room d) (λ most. ViewHasNoRoom source s s' before state most)
     over (inl f) is = none_some (disk.room d) (λ most. ViewHasNoRoom source s s' before state most) (f.fails.1 is)
@@ -275,7 +275,7 @@ module _ {S K D : Type 0} (source : OfSource.Ghosts S) (sink : OfSink.Ghosts K) 
     over (inr (inr (inl r))) is = elim r.given [ inl e ↦ let other = e.0 in cc | inr e ↦ let other = e.0 in cc ]
     over (inr (inr (inr v))) is =
         if_known (disk.room d) (λ most. OneHasNoRoom most before (added_payload v.program)) (λ most. ViewHasNoRoom source s s' before state most) (λ most h. no_room most v h)
-        (subst (IsCauseInRoom (disk.room d) before (added_payload v.program)) is (caused v))
+        (subst (IsMoreCauseInRoom (disk.room d) before (added_payload v.program)) is (caused v))
 
     pub add_cause : Ends (devices_of s k d) (devices_of s' k' d') status → IsAddCause source disk (s, d) (s', d') before state status
     add_cause ends = record { full = full ends; over = over ends }
@@ -289,7 +289,7 @@ module _ {S K D : Type 0} (source : OfSource.Ghosts S) (sink : OfSink.Ghosts K) 
     add_at_once (inr (inr (inl r))) = refuses_with (view_part state.forms) source s s' r.bytes r.took status sink k k' r.line r.refused r.given
     add_at_once (inr (inr (inr v))) =
         accepts_at_once (view_part state.forms) source s s' v.bytes v.took status (λ has. (v.form, v.accepted.has_lens))
-        (λ is. subst (IsCauseInRoom (disk.room d) before (added_payload v.program)) is (caused v))
+        (λ is. subst (IsMoreCauseInRoom (disk.room d) before (added_payload v.program)) is (caused v))
 
     too_many : Ends (devices_of s k d) (devices_of s' k' d') status → status ≡ ending.InputTooLong → TakesTooMany source s s'
     too_many (inl f) is = elim f.fails.0.0 [ inl e ↦ cc | inr e ↦ cc ]
@@ -297,7 +297,7 @@ module _ {S K D : Type 0} (source : OfSource.Ghosts S) (sink : OfSink.Ghosts K) 
         let stops = subst (λ (x : Status). StopsAfter (view_part state.forms) r.bytes x) is r.stops in
         record { bytes = r.bytes; consumes = r.took; over = omega (arith, stops.0, r.at_most) }
     too_many (inr (inr (inl r))) is = elim r.given [ inl e ↦ let other = e.0 in cc | inr e ↦ let other = e.0 in cc ]
-    too_many (inr (inr (inr v))) is = absurd (subst (IsCauseInRoom (disk.room d) before (added_payload v.program)) is (caused v))
+    too_many (inr (inr (inr v))) is = absurd (subst (IsMoreCauseInRoom (disk.room d) before (added_payload v.program)) is (caused v))
 
     -- with no fault and with room it comes to its end, or refuses the program part, or memory runs out
     pub add_complete : Ends (devices_of s k d) (devices_of s' k' d') status → IsStatusAmong init_statuses status → (status ≡ ending.SourceFault → ⊥) → (status ≡ ending.SinkFault → ⊥) → (status ≡ ending.DiskFault → ⊥)

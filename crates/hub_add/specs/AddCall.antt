@@ -23,10 +23,10 @@ use Rattle.hub_records.specs.HubRecords.{tree_of_added}
 use Rattle.hub_records.specs.HubStands.{view_more}
 use Rattle.hub_session.specs.HubStates.{hub_stands_for}
 use Rattle.store_run.specs.Devices.{Devices}
-use Rattle.store_run.specs.MoreCall.{Exits, IsSafeMore, MoreEnds}
+use Rattle.store_run.specs.MoreCall.{ExitsMore, IsSafeMore, MoreEnds}
 use Rattle.store_run.specs.MoreCauses.{OneHasNoRoom}
 use Rattle.store_new.specs.NewEnds.{GivesLine, RefusesAtOnce, StopsAfter}
-use Rattle.store_new.specs.Scripts.{RefusesPart}
+use Rattle.store_new.specs.Scripts.{RefusesPartWith}
 use Rattle.store_run.specs.Refusals.{IsOpening, FailsUnopened}
 use Rattle.store_run.specs.Rooms.{most_bytes}
 use Rattle.hub_add.specs.AddedView.{IsAcceptedView, view_part}
@@ -60,7 +60,7 @@ pub record IsViewMore (before : List (List ℕ)) (state : HubState) (program : P
 
 module _ {K D : Type 0} (sink : OfSink.Ghosts K) (disk : OfDisk.Ghosts D) (old new : K × D) where
   -- For the helpers: the end of the call behind a program that is accepted, over a log that stands.
-  pub record EndsStored (before : List (List ℕ)) (state : HubState) (program : ProgramTree) (form : FormTree)
+  pub record EndsViewStored (before : List (List ℕ)) (state : HubState) (program : ProgramTree) (form : FormTree)
       (status : Status) : Type 0 where
     pub payload : List ℕ
     pub lines : List ℕ
@@ -70,7 +70,7 @@ module _ {K D : Type 0} (sink : OfSink.Ghosts K) (disk : OfDisk.Ghosts D) (old n
   -- the same, or memory ran out before
   abbrev pub EndsAdded : List (List ℕ) → HubState → ProgramTree → FormTree → Status → Type 0
   EndsAdded before state program form status =
-      EndsStored before state program form status
+      EndsViewStored before state program form status
       ⊎ (status ≡ ending.NoMemory) × (new.1 ≡ old.1) × Gave sink old.0 new.0 []
 
 module _ {S K D : Type 0} (source : OfSource.Ghosts S) (sink : OfSink.Ghosts K) (disk : OfDisk.Ghosts D)
@@ -103,7 +103,7 @@ module _ {S K D : Type 0} (source : OfSource.Ghosts S) (sink : OfSink.Ghosts K) 
     pub took : Took source old.source new.source bytes
     pub at_most : length bytes ≤ MOST_BYTES + 1
     pub line : List ℕ
-    pub refused : RefusesPart (view_part state.forms) source old.source new.source bytes line
+    pub refused : RefusesPartWith (view_part state.forms) source old.source new.source bytes line
     pub opens : IsOpening disk old.disk new.disk
     pub holds : StillHolds
     pub given : GivesLine sink old.sink new.sink line ending.ProgramRefused status
@@ -120,7 +120,7 @@ module _ {S K D : Type 0} (source : OfSource.Ghosts S) (sink : OfSink.Ghosts K) 
     pub accepted : IsAcceptedView state.forms (program_part bytes) program form
     pub hub : HubTree
     pub more : IsViewMore before state program form hub
-    pub exits : Exits sink disk (old.sink, old.disk) (new.sink, new.disk) before (added_payload program)
+    pub exits : ExitsMore sink disk (old.sink, old.disk) (new.sink, new.disk) before (added_payload program)
         (hub_state_text (state_with_view state form hub)) status
     pub safe : IsSafeMore disk old.disk new.disk before (added_payload program)
 

@@ -7,7 +7,7 @@ use Rattle.edit_journal.specs.declared.line.Line.{Line}
 use Rattle.edit_module.specs.Words.{WordTree}
 use Rattle.lens_forms.specs.Forms.{FormTree}
 use Rattle.view_hub.specs.Groups.{GroupStepped, with_words, then_others, step_group}
-use Rattle.view_hub.specs.Hubs.{HubTree, CarriedTree, Place, ViewRefusal, step}
+use Rattle.view_hub.specs.Hubs.{HubTree, CarriedTree, Place, ViewRefusal, hub_step}
 use Rattle.hub_run.specs.Answers.{HubAnswerTree, carried}
 use Rattle.hub_run.specs.FormLenses.{form_lens}
 use Rattle.hub_run.specs.FoundLenses.{AllTyped}
@@ -16,11 +16,11 @@ use Rattle.hub_run.specs.Runs.{HubState, answer_of}
 use Rattle.hub_run.proofs.FormsInStep.{FormHub, forms_stay}
 use Rattle.hub_records.specs.HubChanges.{one, group, hub_change_of_line}
 use Rattle.hub_session.specs.AnswerSteps.{Stays, Steps, kinds}
-use Rattle.hub_session.specs.HubAnswers.{HubJournalItem, hub_change_text, refused_with, edit_answered, group_answered, hub_answer_item, stored_hub_answer}
+use Rattle.hub_session.specs.HubAnswers.{HubJournalItem, hub_change_text, refused_with, edit_answered, hub_group_answered, hub_answer_item, stored_hub_answer}
 use Rattle.hub_session.specs.HubStates.{hub_stands_for, stored_hub}
 use Rattle.hub_session.specs.declared.session.HubSession.{HubSession}
 use Rattle.hub_session.proofs.RunsStay.{IsSoundState, stored_sound, answer_stays, run_stays}
-use Rattle.store_run.specs.StoreRuns.{kept_of, last, run}
+use Rattle.store_run.specs.StoreRuns.{kept_of, last_stored, run_in_store}
 use Rattle.store_run.specs.declared.session.StoredAnswer.{StoredAnswer}
 use Rattle.store_laws.specs.SessionRuns.{first_accepted, accepted_lines}
 use Rattle.store_laws.proofs.Sequences.{put_first, first_made, first_is, never_empty}
@@ -42,8 +42,8 @@ module _ (forms : List FormTree) (all : AllTyped forms) where
   taken_goes h (Some (Err why)) k = (Err why, refl, λ m same. absurd cc)
   taken_goes h None k = let is = k.1 in absurd cc
 
-  edit_goes : (h : HubTree) (e : Place × WordTree) → FormHub forms h → EditGoes (step form_lens forms h e)
-  edit_goes h e there = taken_goes h (step form_lens forms h e) (forms_stay forms all h (Ok e) there)
+  edit_goes : (h : HubTree) (e : Place × WordTree) → FormHub forms h → EditGoes (hub_step form_lens forms h e)
+  edit_goes h e there = taken_goes h (hub_step form_lens forms h e) (forms_stay forms all h (Ok e) there)
 
   abbrev GroupGoes : Option GroupStepped → Type 0
   GroupGoes o = (r : GroupStepped) × (o ≡ Some r)
@@ -62,7 +62,7 @@ module _ (forms : List FormTree) (all : AllTyped forms) where
   group_goes h [] there = (Ok (h, []), refl)
   group_goes h (e ∷ es) there =
       let k = edit_goes h e there in
-      first_goes (λ next. step_group form_lens forms next es) (step form_lens forms h e) k.0 k.1 (λ s is. group_goes s.0 es (k.2 s is))
+      first_goes (λ next. step_group form_lens forms next es) (hub_step form_lens forms h e) k.0 k.1 (λ s is. group_goes s.0 es (k.2 s is))
 
 -- ---- a line
 
@@ -75,7 +75,7 @@ item_answered s n (Ok (one e)) k =
     (edit_answered s n e g.0, ap (option_map (edit_answered s n e)) g.1)
 item_answered s n (Ok (group es)) k =
     let g = group_goes s.forms k.0 s.hub es k.1 in
-    (group_answered s n es g.0, ap (option_map (group_answered s n es)) g.1)
+    (hub_group_answered s n es g.0, ap (option_map (hub_group_answered s n es)) g.1)
 item_answered s n (Err fault) k = (refused_with s (fault_line n fault), refl)
 
 line_answered : (s : HubState) (n : ℕ) (line : Line) → IsSoundState s → Answered (stored_hub_answer s n line)
@@ -89,7 +89,7 @@ HubSteps = List (HubState × StoredAnswer)
 -- `view` is the state of a value that answers, of which nothing is used here
 module _ {A : Type 0} (view : A → HubState) where
   abbrev behind_first : ℕ → List Line → HubState × StoredAnswer → Option HubSteps
-  behind_first n lines made = run (stored_hub view) made.0 (n + 1) lines
+  behind_first n lines made = run_in_store (stored_hub view) made.0 (n + 1) lines
 
   abbrev Goes : Option HubSteps → Type 0
   Goes o = (steps : HubSteps) × (o ≡ Some steps)
@@ -101,17 +101,17 @@ module _ {A : Type 0} (view : A → HubState) where
   first_goes_on : (n : ℕ) (lines : List Line) (o : Option (HubState × StoredAnswer)) (k : Answered o) → Goes (behind_first n lines k.0) → Goes (put_first (behind_first n lines) o)
   first_goes_on n lines o k rest = (k.0 ∷ rest.0, first_made (behind_first n lines) o k.0 rest.0 k.1 rest.1)
 
-  runs_on : (s : HubState) (n : ℕ) (lines : List Line) → IsSoundState s → Goes (run (stored_hub view) s n lines)
+  runs_on : (s : HubState) (n : ℕ) (lines : List Line) → IsSoundState s → Goes (run_in_store (stored_hub view) s n lines)
   runs_on s n [] k = ([], refl)
   runs_on s n (line ∷ lines) k =
       let a = line_answered s (n + 1) line k in
-      by_blank (is_blank line) (run (stored_hub view) s n lines) (put_first (behind_first n lines) (stored_hub_answer s (n + 1) line)) (runs_on s n lines k)
+      by_blank (is_blank line) (run_in_store (stored_hub view) s n lines) (put_first (behind_first n lines) (stored_hub_answer s (n + 1) line)) (runs_on s n lines k)
       (first_goes_on n lines (stored_hub_answer s (n + 1) line) a (runs_on a.0.0 (n + 1) lines (answer_stays s (n + 1) line a.0.0 a.0.1 k a.1)))
 
   -- ---- what the run stores, and its lenses
 
   abbrev Stored : HubState → List Line → HubSteps → Type 0
-  Stored s accepted steps = (kept_of steps ≡ map hub_change_text (line_changes accepted)) × ((last s steps).forms ≡ s.forms)
+  Stored s accepted steps = (kept_of steps ≡ map hub_change_text (line_changes accepted)) × ((last_stored s steps).forms ≡ s.forms)
 
   abbrev lines_in : List Line → HubSteps → List Line
   lines_in lines steps = accepted_lines (stored_hub view) lines steps
@@ -135,7 +135,7 @@ module _ {A : Type 0} (view : A → HubState) where
   )
 
   first_stored : (s : HubState) (n : ℕ) (line : Line) (lines : List Line) (steps : HubSteps) → put_first (behind_first n lines) (stored_hub_answer s (n + 1) line) ≡ Some steps
-      → ((u : HubState) (rest : HubSteps) → run (stored_hub view) u (n + 1) lines ≡ Some rest → Stored u (lines_in lines rest) rest)
+      → ((u : HubState) (rest : HubSteps) → run_in_store (stored_hub view) u (n + 1) lines ≡ Some rest → Stored u (lines_in lines rest) rest)
       → Stored s (first_accepted (stored_hub view) line (λ others. lines_in lines others) steps) steps
   first_stored s n line lines [] h behind = absurd (never_empty (behind_first n lines) (stored_hub_answer s (n + 1) line) h)
   first_stored s n line lines (made ∷ rest) h behind =
@@ -150,11 +150,11 @@ module _ {A : Type 0} (view : A → HubState) where
   stored_by_blank true s o1 o2 l1 l2 steps h f g = f h
   stored_by_blank false s o1 o2 l1 l2 steps h f g = g h
 
-  run_stored : (s : HubState) (n : ℕ) (lines : List Line) (steps : HubSteps) → run (stored_hub view) s n lines ≡ Some steps → Stored s (lines_in lines steps) steps
+  run_stored : (s : HubState) (n : ℕ) (lines : List Line) (steps : HubSteps) → run_in_store (stored_hub view) s n lines ≡ Some steps → Stored s (lines_in lines steps) steps
   run_stored s n [] [] h = (refl, refl)
   run_stored s n [] (made ∷ steps) h = absurd cc
   run_stored s n (line ∷ lines) steps h =
-      stored_by_blank (is_blank line) s (run (stored_hub view) s n lines) (put_first (behind_first n lines) (stored_hub_answer s (n + 1) line))
+      stored_by_blank (is_blank line) s (run_in_store (stored_hub view) s n lines) (put_first (behind_first n lines) (stored_hub_answer s (n + 1) line))
       (lines_in lines steps) (first_accepted (stored_hub view) line (λ others. lines_in lines others) steps) steps h
       (λ k. run_stored s n lines steps k)
       (λ k. first_stored s n line lines steps k (λ u rest g. run_stored u (n + 1) lines rest g))

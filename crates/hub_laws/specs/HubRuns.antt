@@ -8,7 +8,7 @@ use Rattle.hub_records.specs.HubChanges.{HubChangeTree, hub_change_of_line}
 use Rattle.hub_run.specs.Runs.{HubState}
 use Rattle.hub_session.specs.HubAnswers.{hub_change_text}
 use Rattle.hub_session.specs.contracts.instance.HubSessionStoredSession.TheImpl.{ghosts as hubs}
-use Rattle.store_run.specs.StoreRuns.{kept_of, last, run}
+use Rattle.store_run.specs.StoreRuns.{kept_of, last_stored, run_in_store}
 use Rattle.store_run.specs.declared.session.StoredAnswer.{StoredAnswer}
 use Rattle.store_laws.specs.SessionRuns.{accepted_lines}
 
@@ -30,11 +30,11 @@ accepted_hub_changes lines steps = line_changes (accepted_lines hubs lines steps
 pub record IsHubJournalRun (state : HubState) (lines : List Line) : Type 0 where
   -- for each item the state after it and the answer to it
   pub steps : List (HubState × StoredAnswer)
-  pub is_run : run hubs state 0 lines ≡ Some steps
+  pub is_run : run_in_store hubs state 0 lines ≡ Some steps
   -- each view is in its lens's consistency relation with the hub, at the start and in every state of the run
   pub first_in_step : IsHubStateInStep state
   pub in_step : All (λ step. IsHubStateInStep step.0) steps
   -- the lenses stay
-  pub lenses : (last state steps).forms ≡ state.forms
+  pub lenses : (last_stored state steps).forms ≡ state.forms
   -- the payloads are those of the changes that were accepted, in order
   pub kept : kept_of steps ≡ map hub_change_text (accepted_hub_changes lines steps)

@@ -7,7 +7,7 @@ use Rattle.doc_values.specs.Documents.{DocTree}
 use Rattle.doc_values.specs.Types.{TyTree}
 use Rattle.lens_forms.specs.Forms.{FormTree, form_tree, left_type}
 use Rattle.view_hub.specs.Groups.{then_others, with_words, step_group, add_view}
-use Rattle.view_hub.specs.Hubs.{ViewTree, HubTree, Place, CarriedTree, ViewRefusal, step}
+use Rattle.view_hub.specs.Hubs.{ViewTree, HubTree, Place, CarriedTree, ViewRefusal, hub_step}
 use Rattle.view_hub.specs.Laws.{AllInStep, IsHub}
 use Rattle.hub_run.specs.FormLenses.{form_lens}
 use Rattle.hub_run.specs.FoundLenses.{AllTyped}
@@ -28,7 +28,7 @@ others_are ls es None same = refl
 pub groups_are : (ls : List ReadyForm) (h : HubTree) (es : List (Place × WordTree)) → step_group ready_lens ls h es ≡ step_group form_lens (forms_of_lenses ls) h es
 groups_are ls h [] = refl
 groups_are ls h (e ∷ es) =
-    others_are ls es (step ready_lens ls h e) (λ k. groups_are ls k es)
+    others_are ls es (hub_step ready_lens ls h e) (λ k. groups_are ls k es)
     ∙ ap (option_and_then (then_others (λ k. step_group form_lens (forms_of_lenses ls) k es))) (steps_are form_of form_lens ls h e)
 
 -- ---- the lenses of a hub, and their forms

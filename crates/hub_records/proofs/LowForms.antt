@@ -14,7 +14,7 @@ use Rattle.lens_forms.specs.Forms.{FormTree, form_tree, left_type, right_type}
 use Rattle.lens_forms.specs.declared.limits.TheConstants.{GREATEST_HEIGHT}
 use Rattle.store_records.proofs.AppliedWords.{word_low}
 use Rattle.view_hub.specs.Groups.{GroupStepped, with_words, then_others, step_group}
-use Rattle.view_hub.specs.Hubs.{ViewTree, HubTree, Place, at_hub, at_view, CarriedTree, ViewRefusal, act_on_hub, after_hub, after_view, step_view, step}
+use Rattle.view_hub.specs.Hubs.{ViewTree, HubTree, Place, at_hub, at_view, CarriedTree, ViewRefusal, act_on_hub, after_hub, after_view, step_view, hub_step}
 use Rattle.hub_run.specs.FormLenses.{form_lens}
 use Rattle.hub_run.specs.RunStates.{forms_of_lenses}
 use Rattle.hub_records.specs.HubChanges.{HubChangeTree, one, group, items_of_edits, tree_of_hub_change}
@@ -78,7 +78,7 @@ module _ (ls : List FormTree) (low : AllLow ls) where
   on_view w h k r (Some v) is = at_lens w h k v r (slice_get ls k) refl is
   on_view w h k r None is = cc
 
-  edit_low : (h : HubTree) (e : Place × WordTree) (r : HubTree × CarriedTree) → step form_lens ls h e ≡ Some (Ok r) → word_depth e.1 ≤ GREATEST_HEIGHT
+  edit_low : (h : HubTree) (e : Place × WordTree) (r : HubTree × CarriedTree) → hub_step form_lens ls h e ≡ Some (Ok r) → word_depth e.1 ≤ GREATEST_HEIGHT
   edit_low h (at_hub, w) r is = on_hub ls w h r low is
   edit_low h (at_view k, w) r is = on_view w h k r (slice_get h.views k) is
 
@@ -99,7 +99,7 @@ module _ (ls : List FormTree) (low : AllLow ls) where
       → items_depth (items_of_edits es) ≤ 3 * GREATEST_HEIGHT + 2
   edits_low h [] m is = omega arith
   edits_low h (e ∷ es) m is =
-      let f = first_made (λ next. step_group form_lens ls next es) (step form_lens ls h e) m is in
+      let f = first_made (λ next. step_group form_lens ls next es) (hub_step form_lens ls h e) m is in
       omega (arith, edit_shallow e, edit_low h e f.0 f.1, edits_low f.0.0 es f.2 f.3)
 
   pub accepted_low : (h : HubTree) (change : HubChangeTree) (m : HubTree × List CarriedTree) → hub_step_of ls h change ≡ Some (Ok m) → depth (tree_of_hub_change change) ≤ max_depth

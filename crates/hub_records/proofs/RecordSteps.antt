@@ -13,7 +13,7 @@ use Rattle.hub_run.specs.RunStates.{forms_of_lenses, ready_lens}
 use Rattle.hub_records.specs.HubChanges.{HubChangeTree, edits_of}
 use Rattle.hub_records.specs.HubRecords.{change_record, add_record, snapshot_record}
 use Rattle.hub_records.specs.HubLenses.{joining_form}
-use Rattle.hub_records.specs.HubStands.{HubStanding, hub_step_of, hub_after_step, view_more, with_view_form, after_view, hub_from, are_consistent, after_hub, hub_after_record}
+use Rattle.hub_records.specs.HubStands.{HubStanding, hub_step_of, hub_after_step, view_more, with_view_form, after_view_found, hub_from, are_consistent, after_hub_snapshot, hub_after_record}
 use Rattle.hub_records.proofs.HubSteps.{groups_are}
 use Rattle.hub_records.proofs.JoiningForms.{forms_snoc}
 
@@ -47,7 +47,7 @@ module _ (n : ℕ) (ls : List ReadyForm) (h : HubTree) (count : ℕ) where
   -- ---- a view more
 
   pub view_refused : (text : List ℕ) → None ≡ joining_form (forms_of_lenses ls) (form_of_text text) → hub_after_record n (standing ls h count) (Some (add_record text)) ≡ Err (BadRecord n)
-  view_refused text none = ap (λ o. after_view n (option_and_then (with_view_form (standing ls h count)) o)) (sym none)
+  view_refused text none = ap (λ o. after_view_found n (option_and_then (with_view_form (standing ls h count)) o)) (sym none)
 
   pub view_reaches : (text : List ℕ) (l : ReadyForm) (w : WordTree) (new : List ReadyForm) (k : HubTree) → Some (form_of l) ≡ joining_form (forms_of_lenses ls) (form_of_text text)
       → w ≡ construct (left_type (form_of l)) h.hub → add_view ready_lens l w h ≡ Some k → new ≡ ls ++ l ∷ []
@@ -57,27 +57,27 @@ module _ (n : ℕ) (ls : List ReadyForm) (h : HubTree) (count : ℕ) where
       let with_it : with_view_form (standing ls h count) (form_of l) ≡ Some (record (standing ls h count) { forms = forms_of_lenses ls ++ form_of l ∷ []; hub = k }) =
       ap (option_map (λ (x : HubTree). record (standing ls h count) { forms = forms_of_lenses ls ++ form_of l ∷ []; hub = x })) more in
       let forms : forms_of_lenses new ≡ forms_of_lenses ls ++ form_of l ∷ [] = ap forms_of_lenses lenses ∙ forms_snoc ls l in
-      ap (λ o. after_view n (option_and_then (with_view_form (standing ls h count)) o)) (sym found) ∙ ap (after_view n) with_it
+      ap (λ o. after_view_found n (option_and_then (with_view_form (standing ls h count)) o)) (sym found) ∙ ap (after_view_found n) with_it
       ∙ ap (λ (fs : List FormTree). Ok (record (standing ls h count) { forms = fs; hub = k })) (sym forms)
 
   -- ---- a snapshot
 
   pub snapshot_refused : (d : Data) (ds : Items) → None ≡ hub_from (forms_of_lenses ls) (d, ds) → hub_after_record n (standing ls h count) (Some (snapshot_record (d, ds))) ≡ Err (BadRecord n)
-  snapshot_refused d ds none = ap (after_hub n (standing ls h count)) (sym none)
+  snapshot_refused d ds none = ap (after_hub_snapshot n (standing ls h count)) (sym none)
 
   tested : (k : HubTree) (b : Bool) → b ≡ are_consistent (forms_of_lenses ls) k.hub k.views
-      → after_hub n (standing ls h count) (Some k) ≡ cond b (Ok (standing ls k count)) (Err (NotConsistent n))
+      → after_hub_snapshot n (standing ls h count) (Some k) ≡ cond b (Ok (standing ls k count)) (Err (NotConsistent n))
   tested k b is = ap (λ (c : Bool). cond c (Ok (standing ls k count)) (Err (NotConsistent n))) (sym is)
 
   pub snapshot_reaches : (d : Data) (ds : Items) (k : HubTree) (new : List ReadyForm) (made : HubTree) → Some k ≡ hub_from (forms_of_lenses ls) (d, ds)
       → true ≡ are_consistent (forms_of_lenses ls) k.hub k.views → new ≡ ls → made ≡ k
       → hub_after_record n (standing ls h count) (Some (snapshot_record (d, ds))) ≡ Ok (standing new made count)
   snapshot_reaches d ds k new made found is lenses same =
-      ap (after_hub n (standing ls h count)) (sym found) ∙ tested k true is
+      ap (after_hub_snapshot n (standing ls h count)) (sym found) ∙ tested k true is
       ∙ ap (λ (ms : List ReadyForm). Ok (standing ms k count)) (sym lenses) ∙ ap (λ (x : HubTree). Ok (standing new x count)) (sym same)
 
   pub snapshot_apart : (d : Data) (ds : Items) (k : HubTree) → Some k ≡ hub_from (forms_of_lenses ls) (d, ds)
       → false ≡ are_consistent (forms_of_lenses ls) k.hub k.views → hub_after_record n (standing ls h count) (Some (snapshot_record (d, ds))) ≡ Err (NotConsistent n)
-  snapshot_apart d ds k found is = ap (after_hub n (standing ls h count)) (sym found) ∙ tested k false is
+  snapshot_apart d ds k found is = ap (after_hub_snapshot n (standing ls h count)) (sym found) ∙ tested k false is
 
 pub ruleset record_rules = (change_reaches, change_refused, view_refused, view_reaches, snapshot_refused, snapshot_reaches, snapshot_apart)

@@ -8,7 +8,7 @@ use Rattle.view_hub.specs.Groups.{GroupStepped}
 use Rattle.view_hub.specs.Hubs.{HubTree}
 use Rattle.hub_records.specs.HubLenses.{joining_form, forms_of_payload}
 use Rattle.hub_records.specs.HubRecords.{HubRecordTree, change_record, add_record, snapshot_record, hub_record_in}
-use Rattle.hub_records.specs.HubStands.{HubStanding, hub_step_of, hub_after_step, with_view_form, after_view, hub_from, are_consistent, after_hub, hub_after_record, hub_going_on, hub_after_payloads, hub_at_start, hub_from_opening, stands_as_hub}
+use Rattle.hub_records.specs.HubStands.{HubStanding, hub_step_of, hub_after_step, with_view_form, after_view_found, hub_from, are_consistent, after_hub_snapshot, hub_after_record, hub_going_on, hub_after_payloads, hub_at_start, hub_from_opening, stands_as_hub}
 
 module _ (n : ℕ) (s : HubStanding) where
   step_known : (o : Option GroupStepped) → hub_after_step n s o ≡ Err NoMemory → ⊥
@@ -16,7 +16,7 @@ module _ (n : ℕ) (s : HubStanding) where
   step_known (Some (Err why)) h = cc
   step_known None h = cc
 
-  view_known : (o : Option HubStanding) → after_view n o ≡ Err NoMemory → ⊥
+  view_known : (o : Option HubStanding) → after_view_found n o ≡ Err NoMemory → ⊥
   view_known (Some t) h = cc
   view_known None h = cc
 
@@ -24,7 +24,7 @@ module _ (n : ℕ) (s : HubStanding) where
   test_known true t h = cc
   test_known false t h = cc
 
-  hub_known : (o : Option HubTree) → after_hub n s o ≡ Err NoMemory → ⊥
+  hub_known : (o : Option HubTree) → after_hub_snapshot n s o ≡ Err NoMemory → ⊥
   hub_known (Some k) h = test_known (are_consistent s.forms k.hub k.views) (record s { hub = k }) h
   hub_known None h = cc
 

@@ -30,7 +30,7 @@ use Rattle.store_records.specs.declared.record_fault.RecordFault.TheVariants.{No
 use Rattle.store_session.specs.ConsistencyTest.{is_consistent}
 use Rattle.store_session.specs.ConsistencyDecided.{consistent_if}
 use Rattle.view_hub.specs.Groups.{GroupStepped, with_words, then_others, step_group}
-use Rattle.view_hub.specs.Hubs.{ViewTree, HubTree, Place, CarriedTree, ViewRefusal as StepRefusal, step}
+use Rattle.view_hub.specs.Hubs.{ViewTree, HubTree, Place, CarriedTree, ViewRefusal as StepRefusal, hub_step}
 use Rattle.view_hub.specs.Laws.{AllInStep, SameLeft, HaveOneLeftType}
 use Rattle.view_hub.proofs.GroupSteps.{added_in_step}
 use Rattle.hub_run.specs.Answers.{HubAnswerTree, carried}
@@ -44,7 +44,7 @@ use Rattle.hub_run.proofs.FoundForms.{OneLeft, typed_more, one_more, some_left}
 use Rattle.hub_records.specs.HubChanges.{HubChangeTree, edits_of}
 use Rattle.hub_records.specs.HubLenses.{joins, joining_form, form_of_item, forms_behind, forms_of_items, forms_of_payload}
 use Rattle.hub_records.specs.HubRecords.{HubRecordTree, change_record, add_record, snapshot_record, programs_of, hub_record_in}
-use Rattle.hub_records.specs.HubStands.{HubStanding, hub_step_of, hub_after_step, view_more, with_view_form, after_view, hub_from, are_consistent, after_hub, hub_after_record, hub_going_on, hub_after_payloads, hub_at_start, hub_from_opening, stands_as_hub}
+use Rattle.hub_records.specs.HubStands.{HubStanding, hub_step_of, hub_after_step, view_more, with_view_form, after_view_found, hub_from, are_consistent, after_hub_snapshot, hub_after_record, hub_going_on, hub_after_payloads, hub_at_start, hub_from_opening, stands_as_hub}
 use Rattle.hub_records.proofs.JoiningForms.{joined}
 
 -- ---- the lens of a text that is accepted is typed
@@ -112,7 +112,7 @@ first_sound p forms h = sound_programs (option_and_then programs_of (tree_of_tex
 -- ---- a change
 
 edit_stays : (forms : List FormTree) → AllTyped forms → (h : HubTree) (e : Place × WordTree) (s : HubTree × CarriedTree) → FormHub forms h
-    → step form_lens forms h e ≡ Some (Ok s) → FormHub forms s.0
+    → hub_step form_lens forms h e ≡ Some (Ok s) → FormHub forms s.0
 edit_stays forms all h e s k is =
     let t = forms_stay forms all h (Ok e) k in
     let took : take_hub_item form_lens forms h (Ok e) ≡ Some (s.0, carried s.1) = ap (option_map (answer_of h)) is in
@@ -143,7 +143,7 @@ edits_stay forms all h [] m k is =
     let same : (h, []) ≡ m = cc in
     subst (λ (p : HubTree × List CarriedTree). FormHub forms p.0) same k
 edits_stay forms all h (e ∷ es) m k is =
-    let f = firsts (λ next. step_group form_lens forms next es) (step form_lens forms h e) m is in
+    let f = firsts (λ next. step_group form_lens forms next es) (hub_step form_lens forms h e) m is in
     subst (FormHub forms) f.4 (edits_stay forms all f.0.0 es f.2 (edit_stays forms all h e f.0 k f.1) f.3)
 
 pub change_stays : (forms : List FormTree) → AllTyped forms → (h : HubTree) (change : HubChangeTree) (k : HubTree) (words : List CarriedTree) → FormHub forms h
@@ -226,13 +226,13 @@ module _ (n : ℕ) (s u : HubStanding) (k : IsSound s) where
   if_step change None e h = absurd cc
 
   if_added : (l : FormTree) → is_typed l ≡ true → joins s.forms l ≡ true → (o : Option HubTree) → view_more l s.hub ≡ o
-      → after_view n (option_map (λ (x : HubTree). record s { forms = s.forms ++ l ∷ []; hub = x }) o) ≡ Ok u → IsSound u
+      → after_view_found n (option_map (λ (x : HubTree). record s { forms = s.forms ++ l ∷ []; hub = x }) o) ≡ Ok u → IsSound u
   if_added l typed may (Some x) e h =
       let same : record s { forms = s.forms ++ l ∷ []; hub = x } ≡ u = cc in
       subst IsSound same (typed_more s.forms l k.0 typed, view_stays s.forms k.0 l typed s.hub x k.1 may e)
   if_added l typed may None e h = absurd cc
 
-  if_joined : (text : List ℕ) (o : Option FormTree) → joining_form s.forms (form_of_text text) ≡ o → after_view n (option_and_then (with_view_form s) o) ≡ Ok u → IsSound u
+  if_joined : (text : List ℕ) (o : Option FormTree) → joining_form s.forms (form_of_text text) ≡ o → after_view_found n (option_and_then (with_view_form s) o) ≡ Ok u → IsSound u
   if_joined text (Some l) e h =
       let j = joined s.forms (form_of_text text) l e in
       if_added l (text_typed text l j.0) j.1 (view_more l s.hub) refl h
@@ -244,7 +244,7 @@ module _ (n : ℕ) (s u : HubStanding) (k : IsSound s) where
       subst IsSound same (k.0, hub_stays s.forms s.hub x k.0 k.1 e)
   if_consistent x false e h = absurd cc
 
-  if_hub : (o : Option HubTree) → after_hub n s o ≡ Ok u → IsSound u
+  if_hub : (o : Option HubTree) → after_hub_snapshot n s o ≡ Ok u → IsSound u
   if_hub (Some x) h = if_consistent x (are_consistent s.forms x.hub x.views) refl h
   if_hub None h = absurd cc
 

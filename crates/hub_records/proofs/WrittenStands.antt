@@ -27,7 +27,7 @@ use Rattle.hub_run.specs.FoundLenses.{AllTyped}
 use Rattle.hub_records.specs.HubChanges.{HubChangeTree, edits_of, tree_of_hub_change, all_counts_fit, all_numbers_fit}
 use Rattle.hub_records.specs.HubRecords.{tree_of_added, tree_of_view, items_of_views, tree_of_hub_snapshot, view_parts, hub_record_of}
 use Rattle.hub_records.specs.HubLenses.{joins, joining_form}
-use Rattle.hub_records.specs.HubStands.{HubStanding, hub_step_of, hub_after_step, view_more, with_view_form, after_view, after_add, view_of, views_of, hub_from, are_consistent, after_hub, hub_after_record, stands_as_hub}
+use Rattle.hub_records.specs.HubStands.{HubStanding, hub_step_of, hub_after_step, view_more, with_view_form, after_view_found, after_add, view_of, views_of, hub_from, are_consistent, after_hub_snapshot, hub_after_record, stands_as_hub}
 use Rattle.hub_records.specs.WholeInts.{views_hold_i64s, hub_holds_i64s}
 use Rattle.hub_records.proofs.Appending.{stands_append}
 use Rattle.hub_records.proofs.RecordsAreRead.{change_read, snapshot_read}
@@ -62,7 +62,7 @@ module _ (ps : List (List ℕ)) (p : List ℕ) (s : HubStanding) (before : stand
       let form : form_of_text (canonical program) ≡ Some l = ap (λ r. accepted (form_of_program r)) again_read ∙ ap accepted accepted_as in
       let stays : joining_form s.forms (Some l) ≡ Some l = if_true (joins s.forms l) (Some l) None may in
       let with_it : with_view_form s l ≡ Some (record s { forms = s.forms ++ l ∷ []; hub = h }) = ap (option_map (λ (k : HubTree). record s { forms = s.forms ++ l ∷ []; hub = k })) more in
-      goes_on (tree_of_added (canonical program)) reads ∙ ap (after_add number s) form ∙ ap (λ o. after_view number (option_and_then (with_view_form s) o)) stays ∙ ap (after_view number) with_it
+      goes_on (tree_of_added (canonical program)) reads ∙ ap (after_add number s) form ∙ ap (λ o. after_view_found number (option_and_then (with_view_form s) o)) stays ∙ ap (after_view_found number) with_it
 
   -- ---- a snapshot
 
@@ -105,8 +105,8 @@ module _ (ps : List (List ℕ)) (p : List ℕ) (s : HubStanding) (before : stand
       rw (again (left_type l) h.hub typed_hub.left_has ints, views) refl in
       let test = all_consistent (left_type l) (l ∷ ls) h.hub h.views typed all in
       ap (hub_after_record n t) (snapshot_read l ls h)
-      ∙ ap (λ fs. after_hub n t (hub_from fs (tree_of_document (left_type l) h.hub, items_of_views (l ∷ ls) h.views))) is
-      ∙ ap (after_hub n t) from
+      ∙ ap (λ fs. after_hub_snapshot n t (hub_from fs (tree_of_document (left_type l) h.hub, items_of_views (l ∷ ls) h.views))) is
+      ∙ ap (after_hub_snapshot n t) from
       ∙ if_true (are_consistent t.forms h.hub h.views) (Ok (record t { hub = h })) (Err (NotConsistent n)) (ap (λ fs. are_consistent fs h.hub h.views) is ∙ test)
 
   -- the snapshot of any hub that is in step with the lenses

@@ -51,12 +51,12 @@ abbrev pub with_view_form : HubStanding → FormTree → Option HubStanding
 with_view_form s l = option_map (λ h. record s { forms = s.forms ++ l ∷ []; hub = h }) (view_more l s.hub)
 
 -- a lens that may not stand behind the others, or is none, is a bad record
-abbrev pub after_view : ℕ → Option HubStanding → Result HubStanding RecordFault
-after_view number (Some s) = Ok s
-after_view number None = Err (BadRecord number)
+abbrev pub after_view_found : ℕ → Option HubStanding → Result HubStanding RecordFault
+after_view_found number (Some s) = Ok s
+after_view_found number None = Err (BadRecord number)
 
 abbrev pub after_add : ℕ → HubStanding → Option FormTree → Result HubStanding RecordFault
-after_add number s found = after_view number (option_and_then (with_view_form s) (joining_form s.forms found))
+after_add number s found = after_view_found number (option_and_then (with_view_form s) (joining_form s.forms found))
 
 -- ---- a snapshot
 
@@ -85,10 +85,10 @@ are_consistent (l ∷ ls) x (v ∷ vs) = is_consistent l x v.comp v.doc && are_c
 are_consistent _ x _ = false
 
 -- a snapshot puts its hub in the place of the one before, if all its views are consistent
-abbrev pub after_hub : ℕ → HubStanding → Option HubTree → Result HubStanding RecordFault
-after_hub number s (Some h) = if are_consistent s.forms h.hub h.views then Ok (record s { hub = h })
+abbrev pub after_hub_snapshot : ℕ → HubStanding → Option HubTree → Result HubStanding RecordFault
+after_hub_snapshot number s (Some h) = if are_consistent s.forms h.hub h.views then Ok (record s { hub = h })
     else Err (NotConsistent number)
-after_hub number s None = Err (BadRecord number)
+after_hub_snapshot number s None = Err (BadRecord number)
 
 -- ---- a record behind the first
 
@@ -98,7 +98,7 @@ abbrev pub hub_after_record : ℕ → HubStanding → Option HubRecordTree → R
 hub_after_record number s None = Err (BadRecord number)
 hub_after_record number s (Some (change_record change)) = hub_after_step number s (hub_step_of s.forms s.hub change)
 hub_after_record number s (Some (add_record text)) = after_add number s (form_of_text text)
-hub_after_record number s (Some (snapshot_record p)) = after_hub number s (hub_from s.forms p)
+hub_after_record number s (Some (snapshot_record p)) = after_hub_snapshot number s (hub_from s.forms p)
 
 -- the records from this number on, each from what stands after the one before it
 abbrev pub hub_going_on : (HubStanding → Result HubStanding RecordFault) → Result HubStanding RecordFault

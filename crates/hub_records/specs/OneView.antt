@@ -10,7 +10,7 @@ use Rattle.edit_session.specs.Step.{TripleTree, Stepped, AllStepped}
 use Rattle.lens_core.specs.Translation.{translate}
 use Rattle.lens_forms.specs.Forms.{FormTree, left_type, right_type}
 use Rattle.view_hub.specs.Groups.{GroupStepped, step_group}
-use Rattle.view_hub.specs.Hubs.{HubTree, Place, at_hub, at_view, CarriedTree, ViewRefusal, no_apply, step}
+use Rattle.view_hub.specs.Hubs.{HubTree, Place, at_hub, at_view, CarriedTree, ViewRefusal, no_apply, hub_step}
 use Rattle.hub_run.specs.FormLenses.{form_lens}
 
 -- the hub with one view of a triple
@@ -44,7 +44,7 @@ hub_grouped es (Err why) = Err (why.0, no_apply why.1.0 why.1.1)
 -- an edit of the hub with one view is the entry of the session
 abbrev pub IsSessionStep : FormTree → TripleTree → Side × WordTree → Type 0
 IsSessionStep l t e =
-    step form_lens (l ∷ []) (hub_of_triple t) (edit_of_entry e)
+    hub_step form_lens (l ∷ []) (hub_of_triple t) (edit_of_entry e)
     ≡ option_map (hub_stepped e) (sessions.step (left_type l) (right_type l) (translate l) t e)
 
 -- and so is a group

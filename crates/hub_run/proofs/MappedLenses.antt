@@ -8,7 +8,7 @@ use Rattle.edit_module.specs.Words.{WordTree}
 use Rattle.lens_core.specs.Complements.{CompTree}
 use Rattle.lens_core.specs.declared.lens.EditLens as OfLens
 use Rattle.lens_core.specs.Translation.{Translated}
-use Rattle.view_hub.specs.Hubs.{ViewTree, HubTree, Place, at_hub, at_view, stepped, lower, lower_all, lower_others, after_hub, act_on_hub, after_lift, after_view, step_view, step, first_view, start_hub}
+use Rattle.view_hub.specs.Hubs.{ViewTree, HubTree, Place, at_hub, at_view, stepped, lower, lower_all, lower_others, after_hub, act_on_hub, after_lift, after_view, step_view, hub_step, first_view, start_hub}
 use Rattle.hub_run.specs.FormLenses.{lens_by}
 use Rattle.hub_run.specs.Runs.{HubItem, answer_of, take_hub_item}
 
@@ -84,7 +84,7 @@ module _ {L F : Type 0} (f : L → F) (lens : OfLens.Ghosts F) where
   at_hub_stepped ls vs w None = refl
   at_hub_stepped ls vs w (Some a) = hub_stepped ls vs w a
 
-  pub steps_are : (ls : List L) (h : HubTree) (e : Place × WordTree) → step by_f ls h e ≡ step lens (map f ls) h e
+  pub steps_are : (ls : List L) (h : HubTree) (e : Place × WordTree) → hub_step by_f ls h e ≡ hub_step lens (map f ls) h e
   steps_are ls h (at_hub, w) =
       at_hub_stepped ls h.views w (act_on_hub by_f ls w h.hub)
       ∙ ap (option_and_then (after_hub lens (map f ls) h.views w)) (hub_acted ls w h.hub)

@@ -1,4 +1,4 @@
--- The run of a hub over the lines of a journal, and the lines of its last state. The run over lines is `run` of
+-- The run of a hub over the lines of a journal, and the lines of its last state. The run over lines is `run_lines` of
 -- script_run, from the state and the answer that are defined here.
 -- Read it from the end: `IsHubInStep`, `first_state`, `hub_answer`, then `hub_state_text`.
 use Rattle.std.specs.Prelude.{◌≡◌, ℕ, ◌+◌, List, [], ◌∷◌, ◌++◌, slice_get, Option, Some, option_map, Result, Ok, Err}
@@ -15,7 +15,7 @@ use Rattle.lens_core.specs.declared.lens.EditLens as OfLens
 use Rattle.answer_text.specs.Lines.{tree_line}
 use Rattle.script_run.specs.declared.line_answers.Answer.{Answer}
 use Rattle.view_hub.specs.Hubs as hubs
-use Rattle.view_hub.specs.Hubs.{ViewTree, HubTree, Place, CarriedTree, step, first_hub}
+use Rattle.view_hub.specs.Hubs.{ViewTree, HubTree, Place, CarriedTree, hub_step, first_hub}
 use Rattle.view_hub.specs.Laws.{IsHub}
 use Rattle.hub_run.specs.Answers.{HubAnswerTree, carried, no_view, no_apply, no_edit, is_refused_by_hub}
 use Rattle.hub_run.specs.Answers.{hub_answer_line}
@@ -65,7 +65,7 @@ answer_of h (Err (hubs.no_apply at cause)) = (h, no_apply at cause)
 module _ {L : Type 0} (lens : OfLens.Ghosts L) where
   -- the hub after an item, and the answer to it
   abbrev pub take_hub_item : List L → HubTree → HubItem → Option (HubTree × HubAnswerTree)
-  take_hub_item ls h (Ok e) = option_map (answer_of h) (step lens ls h e)
+  take_hub_item ls h (Ok e) = option_map (answer_of h) (hub_step lens ls h e)
   take_hub_item ls h (Err fault) = Some (h, no_edit fault)
 
 -- ---- a state

@@ -14,7 +14,7 @@ use Rattle.answer_text.specs.Lines.{tree_line, fault_line}
 use Rattle.lens_forms.specs.Forms.{FormTree, left_type, right_type}
 use Rattle.view_hub.specs.Groups.{GroupStepped, step_group}
 use Rattle.view_hub.specs.Hubs as hubs
-use Rattle.view_hub.specs.Hubs.{ViewTree, HubTree, CarriedTree, Place, ViewRefusal, step}
+use Rattle.view_hub.specs.Hubs.{ViewTree, HubTree, CarriedTree, Place, ViewRefusal, hub_step}
 use Rattle.hub_run.specs.Answers.{tree_of_words, hub_ok_line}
 use Rattle.hub_run.specs.FormLenses.{form_lens}
 use Rattle.hub_run.specs.Runs.{HubState, view_lines, hub_line, hub_state_lines, hub_state_text}
@@ -24,7 +24,7 @@ use Rattle.store_session.proofs.Decimals.{decimal_plain}
 use Rattle.store_session.proofs.AnswerLines.{answer_is_line}
 use Rattle.store_session.proofs.NoLineEnd.{text_plain}
 use Rattle.hub_records.specs.HubChanges.{one, group}
-use Rattle.hub_session.specs.HubAnswers.{HubJournalItem, items_of_carried, group_ok_line, refused_hub_part_line, refused_edit_line, refused_with, edit_answered, group_answered, hub_answer_item}
+use Rattle.hub_session.specs.HubAnswers.{HubJournalItem, items_of_carried, group_ok_line, refused_hub_part_line, refused_edit_line, refused_with, edit_answered, hub_group_answered, hub_answer_item}
 
 -- ---- lines of parts
 
@@ -98,17 +98,17 @@ module _ (s : HubState) (n : ℕ) where
       subst Made pair (record { is_line = edit_refused_line n why; ok = edit_begins n why })
   of_edit e None t a h = cc
 
-  of_group : (es : List (Place × WordTree)) (o : Option GroupStepped) (t : HubState) (a : StoredAnswer) → option_map (group_answered s n es) o ≡ Some (t, a) → IsAnswer a
+  of_group : (es : List (Place × WordTree)) (o : Option GroupStepped) (t : HubState) (a : StoredAnswer) → option_map (hub_group_answered s n es) o ≡ Some (t, a) → IsAnswer a
   of_group es (Some (Ok r)) t a h =
-      let pair : group_answered s n es (Ok r) ≡ (t, a) = cc in
+      let pair : hub_group_answered s n es (Ok r) ≡ (t, a) = cc in
       subst Made pair (record { is_line = group_is_line n r.1; ok = refl })
   of_group es (Some (Err why)) t a h =
-      let pair : group_answered s n es (Err why) ≡ (t, a) = cc in
+      let pair : hub_group_answered s n es (Err why) ≡ (t, a) = cc in
       subst Made pair (record { is_line = part_refused_line n why.0 why.1; ok = part_begins n why.0 why.1 })
   of_group es None t a h = cc
 
   pub item_is_answer : (item : HubJournalItem) (t : HubState) (a : StoredAnswer) → hub_answer_item s n item ≡ Some (t, a) → IsAnswer a
-  item_is_answer (Ok (one e)) t a h = of_edit e (step form_lens s.forms s.hub e) t a h
+  item_is_answer (Ok (one e)) t a h = of_edit e (hub_step form_lens s.forms s.hub e) t a h
   item_is_answer (Ok (group es)) t a h = of_group es (step_group form_lens s.forms s.hub es) t a h
   item_is_answer (Err fault) t a h =
       let pair : refused_with s (fault_line n fault) ≡ (t, a) = cc in

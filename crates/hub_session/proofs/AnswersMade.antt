@@ -12,7 +12,7 @@ use Rattle.lens_flat.specs.declared.flat.ReadyForm.{ReadyForm}
 use Rattle.lens_forms.specs.Forms.{form_tree}
 use Rattle.view_hub.specs.Groups.{then_others, step_group}
 use Rattle.view_hub.specs.Laws.{IsHub}
-use Rattle.view_hub.specs.Hubs.{HubTree, Place, CarriedTree, ViewRefusal, step}
+use Rattle.view_hub.specs.Hubs.{HubTree, Place, CarriedTree, ViewRefusal, hub_step}
 use Rattle.hub_run.specs.Answers.{hub_ok_line}
 use Rattle.hub_run.specs.FormLenses.{form_lens}
 use Rattle.hub_run.specs.FoundLenses.{AllTyped}
@@ -28,7 +28,7 @@ use Rattle.hub_records.specs.WholeInts.{hub_holds_i64s}
 use Rattle.hub_records.proofs.HubSteps.{groups_are}
 use Rattle.hub_records.proofs.LowForms.{accepted_low}
 use Rattle.hub_session.specs.HubStates.{HasHubSnapshot, hub_snapshot_text}
-use Rattle.hub_session.specs.HubAnswers.{HubJournalItem, hub_change_text, group_ok_line, refused_edit_line, refused_hub_part_line, edit_answered, group_answered, hub_answer_item}
+use Rattle.hub_session.specs.HubAnswers.{HubJournalItem, hub_change_text, group_ok_line, refused_edit_line, refused_hub_part_line, edit_answered, hub_group_answered, hub_answer_item}
 
 -- the state of these lenses and this hub
 abbrev pub state : List ReadyForm → HubTree → HubState
@@ -38,15 +38,15 @@ module _ (ls : List ReadyForm) (h : HubTree) (n : ℕ) where
   abbrev made : HubTree → StoredAnswer → Option (HubState × StoredAnswer)
   made k a = Some (state ls k, a)
 
-  edit_step : (e : Place × WordTree) (r : Result (HubTree × CarriedTree) ViewRefusal) → step ready_lens ls h e ≡ Some r → step form_lens (forms_of_lenses ls) h e ≡ Some r
+  edit_step : (e : Place × WordTree) (r : Result (HubTree × CarriedTree) ViewRefusal) → hub_step ready_lens ls h e ≡ Some r → hub_step form_lens (forms_of_lenses ls) h e ≡ Some r
   edit_step e r is = sym (steps_are (λ (l : ReadyForm). form_tree l.typed) form_lens ls h e) ∙ is
 
-  pub edit_accepted : (e : Place × WordTree) (k : HubTree) (c : CarriedTree) (a : StoredAnswer) → step ready_lens ls h e ≡ Some (Ok (k, c))
+  pub edit_accepted : (e : Place × WordTree) (k : HubTree) (c : CarriedTree) (a : StoredAnswer) → hub_step ready_lens ls h e ≡ Some (Ok (k, c))
       → a.line ≡ hub_ok_line n c → a.payload ≡ Some (hub_change_text (one e)) → hub_answer_item (state ls h) n (Ok (one e)) ≡ made k a
   edit_accepted e k c a is line payload =
       ap (option_map (edit_answered (state ls h) n e)) (edit_step e (Ok (k, c)) is) ∙ ap (made k) (sym (answer_is a (hub_ok_line n c) (Some (hub_change_text (one e))) line payload))
 
-  pub edit_refused : (e : Place × WordTree) (why : ViewRefusal) (a : StoredAnswer) → step ready_lens ls h e ≡ Some (Err why)
+  pub edit_refused : (e : Place × WordTree) (why : ViewRefusal) (a : StoredAnswer) → hub_step ready_lens ls h e ≡ Some (Err why)
       → a.line ≡ refused_edit_line n why → a.payload ≡ None → hub_answer_item (state ls h) n (Ok (one e)) ≡ made h a
   edit_refused e why a is line payload =
       ap (option_map (edit_answered (state ls h) n e)) (edit_step e (Err why) is) ∙ ap (made h) (sym (answer_is a (refused_edit_line n why) None line payload))
@@ -54,22 +54,22 @@ module _ (ls : List ReadyForm) (h : HubTree) (n : ℕ) where
   pub group_accepted : (es : List (Place × WordTree)) (k : HubTree) (cs : List CarriedTree) (a : StoredAnswer) → step_group ready_lens ls h es ≡ Some (Ok (k, cs))
       → a.line ≡ group_ok_line n cs → a.payload ≡ Some (hub_change_text (group es)) → hub_answer_item (state ls h) n (Ok (group es)) ≡ made k a
   group_accepted es k cs a is line payload =
-      ap (option_map (group_answered (state ls h) n es)) (sym (groups_are ls h es) ∙ is) ∙ ap (made k) (sym (answer_is a (group_ok_line n cs) (Some (hub_change_text (group es))) line payload))
+      ap (option_map (hub_group_answered (state ls h) n es)) (sym (groups_are ls h es) ∙ is) ∙ ap (made k) (sym (answer_is a (group_ok_line n cs) (Some (hub_change_text (group es))) line payload))
 
   pub group_refused : (es : List (Place × WordTree)) (part : ℕ) (why : ViewRefusal) (a : StoredAnswer) → step_group ready_lens ls h es ≡ Some (Err (part, why))
       → a.line ≡ refused_hub_part_line n part why → a.payload ≡ None → hub_answer_item (state ls h) n (Ok (group es)) ≡ made h a
   group_refused es part why a is line payload =
-      ap (option_map (group_answered (state ls h) n es)) (sym (groups_are ls h es) ∙ is) ∙ ap (made h) (sym (answer_is a (refused_hub_part_line n part why) None line payload))
+      ap (option_map (hub_group_answered (state ls h) n es)) (sym (groups_are ls h es) ∙ is) ∙ ap (made h) (sym (answer_is a (refused_hub_part_line n part why) None line payload))
 
   -- the same of a change that is such an edit or such a group, over the lenses that a call leaves
 
   pub edit_answer : (change : HubChangeTree) (e : Place × WordTree) (new : List ReadyForm) (k : HubTree) (c : CarriedTree) (a : StoredAnswer) → change ≡ one e → new ≡ ls
-      → step ready_lens ls h e ≡ Some (Ok (k, c)) → a.line ≡ hub_ok_line n c → a.payload ≡ Some (hub_change_text change) → hub_answer_item (state ls h) n (Ok change) ≡ Some (state new k, a)
+      → hub_step ready_lens ls h e ≡ Some (Ok (k, c)) → a.line ≡ hub_ok_line n c → a.payload ≡ Some (hub_change_text change) → hub_answer_item (state ls h) n (Ok change) ≡ Some (state new k, a)
   edit_answer change e new k c a same lenses is line payload =
       ap (λ (x : HubChangeTree). hub_answer_item (state ls h) n (Ok x)) same ∙ edit_accepted e k c a is line (payload ∙ ap (λ (x : HubChangeTree). Some (hub_change_text x)) same)
       ∙ ap (λ (ms : List ReadyForm). Some (state ms k, a)) (sym lenses)
 
-  pub edit_refusal : (change : HubChangeTree) (e : Place × WordTree) (why : ViewRefusal) (a : StoredAnswer) → change ≡ one e → step ready_lens ls h e ≡ Some (Err why)
+  pub edit_refusal : (change : HubChangeTree) (e : Place × WordTree) (why : ViewRefusal) (a : StoredAnswer) → change ≡ one e → hub_step ready_lens ls h e ≡ Some (Err why)
       → a.line ≡ refused_edit_line n why → a.payload ≡ None → hub_answer_item (state ls h) n (Ok change) ≡ made h a
   edit_refusal change e why a same is line payload = ap (λ (x : HubChangeTree). hub_answer_item (state ls h) n (Ok x)) same ∙ edit_refused e why a is line payload
 
@@ -85,7 +85,7 @@ module _ (ls : List ReadyForm) (h : HubTree) (n : ℕ) where
 
   -- the tree of a change that was accepted is read back
 
-  pub edit_low : (e : Place × WordTree) (k : HubTree) (c : CarriedTree) → AllLow (forms_of_lenses ls) → step ready_lens ls h e ≡ Some (Ok (k, c)) → depth (tree_of_hub_change (one e)) ≤ max_depth
+  pub edit_low : (e : Place × WordTree) (k : HubTree) (c : CarriedTree) → AllLow (forms_of_lenses ls) → hub_step ready_lens ls h e ≡ Some (Ok (k, c)) → depth (tree_of_hub_change (one e)) ≤ max_depth
   edit_low e k c low is =
       accepted_low (forms_of_lenses ls) low h (one e) (k, c ∷ [])
       (ap (option_and_then (then_others (λ (next : HubTree). step_group form_lens (forms_of_lenses ls) next []))) (edit_step e (Ok (k, c)) is))

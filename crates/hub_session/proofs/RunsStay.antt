@@ -5,7 +5,7 @@ use Rattle.std.proofs.lemmas.List.Elements.{All-from_recursion}
 use Rattle.edit_journal.specs.Lines.{is_blank}
 use Rattle.edit_journal.specs.declared.line.Line.{Line}
 use Rattle.lens_forms.specs.Forms.{FormTree}
-use Rattle.store_run.specs.StoreRuns.{run}
+use Rattle.store_run.specs.StoreRuns.{run_in_store}
 use Rattle.store_run.specs.declared.session.StoredAnswer.{StoredAnswer}
 use Rattle.view_hub.specs.Laws.{IsHub}
 use Rattle.hub_run.specs.FormLenses.{form_lens}
@@ -49,7 +49,7 @@ AllStay steps = AllByRecursion (λ (step : HubState × StoredAnswer). IsHub form
 -- `view` is the state of a value that answers, of which nothing is used here
 module _ {A : Type 0} (view : A → HubState) where
   abbrev others : HubState → ℕ → List Line → Option (List (HubState × StoredAnswer))
-  others s n lines = run (stored_hub view) s n lines
+  others s n lines = run_in_store (stored_hub view) s n lines
 
   first_of : (m : HubState × StoredAnswer) (o : Option (List (HubState × StoredAnswer))) (steps : List (HubState × StoredAnswer)) → option_map (λ rest. m ∷ rest) o ≡ Some steps
       → (rest : List (HubState × StoredAnswer)) × (o ≡ Some rest) × (m ∷ rest ≡ steps)

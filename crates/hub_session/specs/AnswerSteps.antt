@@ -6,13 +6,14 @@ use Rattle.edit_journal.specs.declared.line.Line.{Line}
 use Rattle.edit_module.specs.Words.{WordTree}
 use Rattle.answer_text.specs.Lines.{fault_line}
 use Rattle.view_hub.specs.Groups.{GroupStepped, then_others, step_group}
-use Rattle.view_hub.specs.Hubs.{HubTree, CarriedTree, Place, ViewRefusal, step}
+use Rattle.view_hub.specs.Hubs.{HubTree, CarriedTree, Place, ViewRefusal, hub_step}
 use Rattle.hub_run.specs.FormLenses.{form_lens}
 use Rattle.hub_run.specs.Runs.{HubState}
 use Rattle.store_run.specs.declared.session.StoredAnswer.{StoredAnswer}
 use Rattle.hub_records.specs.HubChanges.{HubChangeTree, one, group, hub_change_of_line}
 use Rattle.hub_records.specs.HubStands.{hub_step_of}
-use Rattle.hub_session.specs.HubAnswers.{HubJournalItem, hub_change_text, refused_with, edit_answered, group_answered}
+use Rattle.hub_session.specs.HubAnswers.{HubJournalItem, hub_change_text, refused_with, edit_answered}
+use Rattle.hub_session.specs.HubAnswers.{hub_group_answered}
 use Rattle.hub_session.specs.HubAnswers.{hub_answer_item, stored_hub_answer}
 
 -- the state stays, and there is no payload
@@ -38,7 +39,7 @@ module _ (s : HubState) (n : ℕ) where
 
   edit_kind : (e : Place × WordTree) (o : Option (Result (HubTree × CarriedTree) ViewRefusal)) (t : HubState)
       (a : StoredAnswer)
-      → step form_lens s.forms s.hub e ≡ o
+      → hub_step form_lens s.forms s.hub e ≡ o
       → option_map (edit_answered s n e) o ≡ Some (t, a) → Kinds s t (Ok (one e)) a
   edit_kind e (Some (Ok r)) t a is h =
       let pair : edit_answered s n e (Ok r) ≡ (t, a) = cc in
@@ -58,19 +59,19 @@ module _ (s : HubState) (n : ℕ) where
 
   group_kind : (es : List (Place × WordTree)) (o : Option GroupStepped) (t : HubState) (a : StoredAnswer)
       → step_group form_lens s.forms s.hub es ≡ o
-      → option_map (group_answered s n es) o ≡ Some (t, a) → Kinds s t (Ok (group es)) a
+      → option_map (hub_group_answered s n es) o ≡ Some (t, a) → Kinds s t (Ok (group es)) a
   group_kind es (Some (Ok r)) t a is h =
-      let pair : group_answered s n es (Ok r) ≡ (t, a) = cc in
+      let pair : hub_group_answered s n es (Ok r) ≡ (t, a) = cc in
       subst (KindOf (Ok (group es))) pair
       (inr (record { change = group es; is = refl; forms = refl; words = r.1; step = is; payload = refl }))
   group_kind es (Some (Err why)) t a is h =
-      let pair : group_answered s n es (Err why) ≡ (t, a) = cc in
+      let pair : hub_group_answered s n es (Err why) ≡ (t, a) = cc in
       subst (KindOf (Ok (group es))) pair (inl (record { same = refl; none = refl }))
   group_kind es None t a is h = cc
 
   pub kinds : (item : HubJournalItem) (t : HubState) (a : StoredAnswer) → hub_answer_item s n item ≡ Some (t, a)
       → Kinds s t item a
-  kinds (Ok (one e)) t a h = edit_kind e (step form_lens s.forms s.hub e) t a refl h
+  kinds (Ok (one e)) t a h = edit_kind e (hub_step form_lens s.forms s.hub e) t a refl h
   kinds (Ok (group es)) t a h = group_kind es (step_group form_lens s.forms s.hub es) t a refl h
   kinds (Err fault) t a h =
       let pair : refused_with s (fault_line n fault) ≡ (t, a) = cc in

@@ -8,7 +8,7 @@ use Rattle.edit_journal.specs.declared.line.Line.{Line}
 use Rattle.edit_module.specs.Words.{WordTree}
 use Rattle.answer_text.specs.Lines.{no_apply_line, group_refused_line, fault_line}
 use Rattle.view_hub.specs.Groups.{GroupStepped, step_group}
-use Rattle.view_hub.specs.Hubs.{HubTree, CarriedTree, Place, ViewRefusal, no_view, no_apply, step}
+use Rattle.view_hub.specs.Hubs.{HubTree, CarriedTree, Place, ViewRefusal, no_view, no_apply, hub_step}
 use Rattle.hub_run.specs.Answers.{tree_of_words, hub_ok_line, no_view_line}
 use Rattle.hub_run.specs.FormLenses.{form_lens}
 use Rattle.hub_run.specs.Runs.{HubState}
@@ -66,9 +66,9 @@ abbrev pub edit_answered : HubState → ℕ → Place × WordTree → Result (Hu
 edit_answered s n e (Ok r) = accepted_with s r.0 (one e) (hub_ok_line n r.1)
 edit_answered s n e (Err why) = refused_with s (refused_edit_line n why)
 
-abbrev pub group_answered : HubState → ℕ → List (Place × WordTree) → GroupStepped → HubState × StoredAnswer
-group_answered s n es (Ok r) = accepted_with s r.0 (group es) (group_ok_line n r.1)
-group_answered s n es (Err why) = refused_with s (refused_hub_part_line n why.0 why.1)
+abbrev pub hub_group_answered : HubState → ℕ → List (Place × WordTree) → GroupStepped → HubState × StoredAnswer
+hub_group_answered s n es (Ok r) = accepted_with s r.0 (group es) (group_ok_line n r.1)
+hub_group_answered s n es (Err why) = refused_with s (refused_hub_part_line n why.0 why.1)
 
 -- an item is a change, or the fault of a line that is not one
 abbrev pub HubJournalItem : Type 0
@@ -76,8 +76,8 @@ HubJournalItem = Result HubChangeTree LineFault
 
 -- what the item with this number makes of a state: the next state, and the answer
 abbrev pub hub_answer_item : HubState → ℕ → HubJournalItem → Option (HubState × StoredAnswer)
-hub_answer_item s n (Ok (one e)) = option_map (edit_answered s n e) (step form_lens s.forms s.hub e)
-hub_answer_item s n (Ok (group es)) = option_map (group_answered s n es) (step_group form_lens s.forms s.hub es)
+hub_answer_item s n (Ok (one e)) = option_map (edit_answered s n e) (hub_step form_lens s.forms s.hub e)
+hub_answer_item s n (Ok (group es)) = option_map (hub_group_answered s n es) (step_group form_lens s.forms s.hub es)
 hub_answer_item s n (Err fault) = Some (refused_with s (fault_line n fault))
 
 -- the same of the line with this number

@@ -8,7 +8,7 @@ use Rattle.edit_journal.specs.EntryJson.{tree_of_text}
 use Rattle.lens_forms.specs.Forms.{FormTree}
 use Rattle.store_records.specs.declared.record_fault.RecordFault.{RecordFault}
 use Rattle.view_hub.specs.Groups.{GroupStepped, step_group}
-use Rattle.view_hub.specs.Hubs.{HubTree, Place, CarriedTree, step}
+use Rattle.view_hub.specs.Hubs.{HubTree, Place, CarriedTree, hub_step}
 use Rattle.edit_module.specs.Words.{WordTree}
 use Rattle.hub_run.specs.FormLenses.{form_lens}
 use Rattle.hub_records.specs.HubChanges.{HubChangeTree, edits_of}
@@ -16,7 +16,7 @@ use Rattle.hub_records.specs.HubLenses.{forms_of_payload}
 use Rattle.hub_records.specs.HubRecords.{change_record, add_record, snapshot_record, hub_change_in, add_in, hub_snapshot_in, hub_record_of, hub_record_in}
 use Rattle.hub_records.specs.HubStands.{HubStanding, hub_step_of, hub_after_step, hub_after_record, hub_going_on, hub_after_payloads, hub_at_start, hub_from_opening, stands_as_hub}
 use Rattle.hub_records.proofs.StoodInStep.{firsts}
-use Rattle.hub_undo.specs.HubUndone.{joined_carried, undone_step, undone_behind, undone_first, no_hub_words}
+use Rattle.hub_undo.specs.HubUndone.{joined_carried, undone_step, hub_undone_behind, hub_undone_first, no_hub_words}
 use Rattle.hub_undo.specs.HubUndoing.{hub_change_of, hub_changes_of, edits_of_all, last_hub_changes}
 use Rattle.store_undo.specs.Undoing.{payloads_before}
 use Rattle.hub_undo.specs.UndoMaking.{UndoneBy}
@@ -127,7 +127,7 @@ changes_step n s u (p ∷ ps) cs h is =
 module _ (forms : List FormTree) where
   -- with these words behind theirs
   abbrev UndoneTo : CarriedTree → HubTree → List (Place × WordTree) → HubTree → Type 0
-  UndoneTo words h es k = (r : HubTree × CarriedTree) × (undone_behind form_lens forms words h es ≡ Some r) × (r.0 ≡ k)
+  UndoneTo words h es k = (r : HubTree × CarriedTree) × (hub_undone_behind form_lens forms words h es ≡ Some r) × (r.0 ≡ k)
 
   group_undone : (es more : List (Place × WordTree)) (words : CarriedTree) (h k : HubTree) (m : HubTree × List CarriedTree) → step_group form_lens forms h es ≡ Some (Ok m)
       → ((behind : CarriedTree) → UndoneTo behind m.0 more k) → UndoneTo words h (es ++ more) k
@@ -135,13 +135,13 @@ module _ (forms : List FormTree) where
       let same : (h, []) ≡ m = cc in
       subst (λ (x : HubTree × List CarriedTree). UndoneTo words x.0 more k) (sym same) (rest words)
   group_undone (e ∷ es) more words h k m is rest =
-      let f = firsts (λ next. step_group form_lens forms next es) (step form_lens forms h e) m is in
+      let f = firsts (λ next. step_group form_lens forms next es) (hub_step form_lens forms h e) m is in
       let s = f.0 in
       let others = group_undone es more (joined_carried (undone_step form_lens forms h s.1) words) s.0 k f.2 f.3
       (λ behind. subst (λ (x : HubTree). UndoneTo behind x more k) (sym f.4) (rest behind)) in (
         others.0,
         ap (option_and_then
-            (undone_first form_lens (λ c. joined_carried (undone_step form_lens forms h c) words) (λ behind next. undone_behind form_lens forms behind next (es ++ more)))) f.1
+            (hub_undone_first form_lens (λ c. joined_carried (undone_step form_lens forms h c) words) (λ behind next. hub_undone_behind form_lens forms behind next (es ++ more)))) f.1
             ∙ others.1,
         others.2,
       )

@@ -12,7 +12,7 @@ use Rattle.view_hub.specs.Hubs.{ViewTree, HubTree, CarriedTree}
 use Rattle.view_hub.specs.Laws.{AllInStep, IsHub}
 use Rattle.view_hub.specs.declared.side.HubCarried.{HubCarried}
 use Rattle.view_hub.specs.Views.{hub_carried_tree}
-use Rattle.hub_undo.specs.HubUndone.{BringsBack, BringHubBack, BringViewsBack, joined_carried, joined_views, no_view_words, no_hub_words}
+use Rattle.hub_undo.specs.HubUndone.{HubBringsBack, BringHubBack, BringViewsBack, joined_carried, joined_views, no_view_words, no_hub_words}
 use Rattle.hub_undo.specs.UndoSteps.{HasViews, in_front, joined_all}
 use Rattle.hub_undo.specs.UndoViews.{carried_trees}
 
@@ -150,7 +150,7 @@ module _ {L : Type 0} (lens : OfLens.Ghosts L) where
   hub_then [] w x now mid was a b = tt
   hub_then (l ∷ ls) w x now mid was a b = acts_joined (lens.left_type l) w x now mid was a b
 
-  pub back_then : (ls : List L) (w x : CarriedTree) (now mid was : HubTree) → BringsBack lens ls w now mid → BringsBack lens ls x mid was → BringsBack lens ls (joined_carried w x) now was
+  pub back_then : (ls : List L) (w x : CarriedTree) (now mid was : HubTree) → HubBringsBack lens ls w now mid → HubBringsBack lens ls x mid was → HubBringsBack lens ls (joined_carried w x) now was
   back_then ls w x now mid was a b = record {
     hub_back = hub_then ls w.hub x.hub now.hub mid.hub was.hub a.hub_back b.hub_back;
     views_back = views_then ls w.views x.views now.views mid.views was.views a.views_back b.views_back;
@@ -163,7 +163,7 @@ module _ {L : Type 0} (lens : OfLens.Ghosts L) where
   views_still ty (l ∷ ls) x [] all = absurd all
   views_still ty (l ∷ ls) x (v ∷ vs) all = (refl, views_still ty ls x vs all.2)
 
-  pub back_none : (ls : List L) (h : HubTree) → IsHub lens ls h → BringsBack lens ls (no_hub_words (length ls)) h h
+  pub back_none : (ls : List L) (h : HubTree) → IsHub lens ls h → HubBringsBack lens ls (no_hub_words (length ls)) h h
   back_none [] h all = absurd all
   back_none (l ∷ ls) h all = record { hub_back = refl; views_back = views_still (lens.left_type l) (l ∷ ls) h.hub h.views all }
 
@@ -176,7 +176,7 @@ module _ {L : Type 0} (lens : OfLens.Ghosts L) where
   back_count (l ∷ ls) (w ∷ ws) (v ∷ vs) [] all = absurd all
   back_count (l ∷ ls) (w ∷ ws) (v ∷ vs) (u ∷ us) all = let more = back_count ls ws vs us all.1 in omega (arith, more)
 
-  pub words_count : (ls : List L) (words : CarriedTree) (now was : HubTree) → BringsBack lens ls words now was → length words.views ≡ length ls
+  pub words_count : (ls : List L) (words : CarriedTree) (now was : HubTree) → HubBringsBack lens ls words now was → length words.views ≡ length ls
   words_count ls words now was back = back_count ls words.views now.views was.views back.views_back
 
 -- ---- the last part has as many views as what is joined

@@ -19,7 +19,7 @@ use Rattle.hub_records.proofs.StoodInStep.{stood_sound}
 use Rattle.hub_records.proofs.WrittenStands.{hub_stands}
 use Rattle.serde_json.specs.Written.{compact_text}
 use Rattle.edit_journal.specs.EntryJson.{tree_of_text}
-use Rattle.hub_undo.specs.HubUndone.{BringsBack}
+use Rattle.hub_undo.specs.HubUndone.{HubBringsBack}
 use Rattle.hub_undo.specs.HubUndoing.{HubUndoing, HubTakesBack, last_hub_changes, hub_refusal_of, hub_undo_snapshot_text, hub_undo_refusal, hub_undoing, hub_undoing_from, hub_undoing_of, words_text}
 use Rattle.store_undo.specs.Undoing.{payloads_before}
 use Rattle.hub_records.specs.Views.{hub_standing}
@@ -55,7 +55,7 @@ module _ (count : ℕ) (held : List (List ℕ)) (now : HubStanding) (changes : L
   module _ (payload lines : List ℕ) (texts : Texts now.forms payload lines) where
     taken_back : HubTakesBack held undoing_now
     taken_back = record {
-      words = subst (λ (h : HubTree). BringsBack form_lens now.forms before.made.1 h before.was.hub) before.ends texts.back;
+      words = subst (λ (h : HubTree). HubBringsBack form_lens now.forms before.made.1 h before.was.hub) before.ends texts.back;
       in_step = in_step_before;
       stand = hub_stands held (hub_undo_snapshot_text undoing_now) now stood before.was.hub (ap tree_of_text (sym texts.snapshot) ∙ texts.reads) (stood_sound held now stood).0 in_step_before texts.whole;
     }
@@ -119,7 +119,7 @@ refused_fault count held NoMemory is = tt
 -- ---- the texts of a hub that is as it was
 
 pub texts_same : (forms now_forms : List FormTree) (h now : HubTree) (r : HubTree × CarriedTree) (words : CarriedTree) (payload lines : List ℕ) → now_forms ≡ forms → now ≡ h → words ≡ r.1
-    → BringsBack form_lens forms r.1 r.0 h → payload ≡ compact_text (tree_of_hub_snapshot now_forms now) → tree_of_text payload ≡ Some (tree_of_hub_snapshot now_forms now)
+    → HubBringsBack form_lens forms r.1 r.0 h → payload ≡ compact_text (tree_of_hub_snapshot now_forms now) → tree_of_text payload ≡ Some (tree_of_hub_snapshot now_forms now)
     → hub_holds_i64s now ≡ true → lines ≡ words_text words ++ hub_state_lines now_forms now → AreTexts forms h r payload lines
 texts_same forms now_forms h now r words payload lines same_forms same_hub same_words back text reads whole written =
     let tree : tree_of_hub_snapshot now_forms now ≡ tree_of_hub_snapshot forms h = ap₂ tree_of_hub_snapshot same_forms same_hub in

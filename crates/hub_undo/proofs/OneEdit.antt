@@ -13,13 +13,13 @@ use Rattle.edit_module.specs.declared.fault.Cause.{Cause}
 use Rattle.edit_module.specs.declared.word.Word.{Word}
 use Rattle.lens_core.specs.declared.lens.EditLens as OfLens
 use Rattle.view_hub.specs.Acting.{ActsTo, ViewsActTo, WordsAct}
-use Rattle.view_hub.specs.Hubs.{ViewTree, HubTree, Place, CarriedTree, ViewRefusal, no_view, no_apply, step}
+use Rattle.view_hub.specs.Hubs.{ViewTree, HubTree, Place, CarriedTree, ViewRefusal, no_view, no_apply, hub_step}
 use Rattle.view_hub.specs.Laws.{IsHub}
 use Rattle.view_hub.specs.Views.{IsHubRefusal, view_tree, view_trees}
 use Rattle.view_hub.specs.declared.fault.HubFault.{HubFault}
 use Rattle.view_hub.specs.declared.fault.HubFault.TheVariants.{NoView, NoApply}
 use Rattle.view_hub.specs.declared.view.View.{View}
-use Rattle.hub_undo.specs.HubUndone.{BringsBack, BringViewsBack, undone_step, undone_views}
+use Rattle.hub_undo.specs.HubUndone.{HubBringsBack, BringViewsBack, undone_step, undone_views}
 use Rattle.hub_undo.specs.UndoSteps.{UndoesEdit}
 
 -- what takes a result back takes the document back that is the result
@@ -217,25 +217,25 @@ module _ {L : Type 0} (lens : OfLens.Ghosts L) where
       ap₂ (λ (w : WordTree) (ws : List WordTree). record { hub = w; views = ws }) (hub ∙ ap (λ (n : L). inverse (lens.left_type n) c.hub h.hub) is) views
 
   pub step_back : (ls : List L) (l : L) (h : HubTree) (c words : CarriedTree) (g : HubTree) → 0 < length ls → l ≡ get_or ls 0 l
-      → TakesBack (lens.left_type l) words.hub (act (lens.left_type l) c.hub h.hub) h.hub → BringViewsBack lens ls words.views g.views h.views → ActsTo lens ls h c g → BringsBack lens ls words g h
+      → TakesBack (lens.left_type l) words.hub (act (lens.left_type l) c.hub h.hub) h.hub → BringViewsBack lens ls words.views g.views h.views → ActsTo lens ls h c g → HubBringsBack lens ls words g h
   step_back [] l h c words g some is takes views acts = absurd (omega (arith, some))
   step_back (m ∷ ls) l h c words g some is takes views acts =
       let at_first = subst (λ (n : L). TakesBack (lens.left_type n) words.hub (act (lens.left_type n) c.hub h.hub) h.hub) is takes in
       record { hub_back = taken_back (lens.left_type m) words.hub (act (lens.left_type m) c.hub h.hub) h.hub g.hub at_first acts.hub.1; views_back = views }
 
-  module _ (old ls : List L) (h0 h g : HubTree) (e : Place × WordTree) (c : CarriedTree) (lenses : ls ≡ old) (copy : h ≡ h0) (steps : step lens old h0 e ≡ Some (Ok (g, c))) where
+  module _ (old ls : List L) (h0 h g : HubTree) (e : Place × WordTree) (c : CarriedTree) (lenses : ls ≡ old) (copy : h ≡ h0) (steps : hub_step lens old h0 e ≡ Some (Ok (g, c))) where
     -- the words of the step act on the copy
     pub edit_acts : WordsAct lens → IsHub lens old h → ActsTo lens ls h c g
     edit_acts act_so there =
-        subst (λ (xs : List L). ActsTo lens xs h c g) (sym lenses) (act_so old h g e c there (ap (λ (x : HubTree). step lens old x e) copy ∙ steps))
+        subst (λ (xs : List L). ActsTo lens xs h c g) (sym lenses) (act_so old h g e c there (ap (λ (x : HubTree). hub_step lens old x e) copy ∙ steps))
 
     -- the inverses of them take the edit back
-    pub edit_undone : (words : CarriedTree) → words ≡ undone_step lens ls h c → BringsBack lens ls words g h → UndoesEdit lens old h0 e g (Some words)
+    pub edit_undone : (words : CarriedTree) → words ≡ undone_step lens ls h c → HubBringsBack lens ls words g h → UndoesEdit lens old h0 e g (Some words)
     edit_undone words is back = (
       c,
       steps,
       is ∙ ap (λ (xs : List L). undone_step lens xs h c) lenses ∙ ap (λ (x : HubTree). undone_step lens old x c) copy,
-      subst (λ (x : HubTree). BringsBack lens old words g x) copy (subst (λ (xs : List L). BringsBack lens xs words g h) lenses back),
+      subst (λ (x : HubTree). HubBringsBack lens old words g x) copy (subst (λ (xs : List L). HubBringsBack lens xs words g h) lenses back),
     )
 
 -- an edit that is refused

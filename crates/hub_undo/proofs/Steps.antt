@@ -5,7 +5,7 @@ use Rattle.std.proofs.lemmas.List.{map_more, map-append, take-append-drop, take_
 use Rattle.edit_module.specs.Words.{WordTree}
 use Rattle.edit_module.specs.declared.word.Word.{Word}
 use Rattle.lens_core.specs.declared.lens.EditLens as OfLens
-use Rattle.view_hub.specs.Hubs.{HubTree, Place, CarriedTree, ViewRefusal, step}
+use Rattle.view_hub.specs.Hubs.{HubTree, Place, CarriedTree, ViewRefusal, hub_step}
 use Rattle.view_hub.specs.Laws.{IsHub}
 use Rattle.view_hub.specs.Views.{hub_carried_tree, edit_tree, edit_trees}
 use Rattle.view_hub.specs.declared.side.HubCarried.{HubCarried}
@@ -13,7 +13,7 @@ use Rattle.view_hub.specs.declared.side.HubSide.{HubSide}
 use Rattle.hub_records.specs.HubChanges.{HubChangeTree, edits_of}
 use Rattle.hub_records.specs.Views.{hub_change_tree}
 use Rattle.hub_records.specs.declared.change.HubChange.{HubChange}
-use Rattle.hub_undo.specs.HubUndone.{BringsBack, joined_carried, no_hub_words, undone, undone_behind, undone_first, undone_step}
+use Rattle.hub_undo.specs.HubUndone.{HubBringsBack, joined_carried, no_hub_words, hub_undone, hub_undone_behind, hub_undone_first, undone_step}
 use Rattle.hub_undo.specs.HubUndoing.{edits_of_all}
 use Rattle.hub_undo.specs.UndoMaking.{change_trees}
 use Rattle.hub_undo.specs.UndoSteps.{Fails, Stepping, StepsOver, UndoesEdit, in_front, joined_all}
@@ -26,21 +26,21 @@ Edits = List (Place × WordTree)
 module _ {L : Type 0} (lens : OfLens.Ghosts L) (ls : List L) where
   -- ---- one edit
 
-  first_edit : (behind : CarriedTree) (h : HubTree) (e : Place × WordTree) (es : Edits) (o : Option (Result (HubTree × CarriedTree) ViewRefusal)) → step lens ls h e ≡ o
-      → undone_behind lens ls behind h (e ∷ es)
-      ≡ option_and_then (undone_first lens (λ c. joined_carried (undone_step lens ls h c) behind) (λ more next. undone_behind lens ls more next es)) o
+  first_edit : (behind : CarriedTree) (h : HubTree) (e : Place × WordTree) (es : Edits) (o : Option (Result (HubTree × CarriedTree) ViewRefusal)) → hub_step lens ls h e ≡ o
+      → hub_undone_behind lens ls behind h (e ∷ es)
+      ≡ option_and_then (hub_undone_first lens (λ c. joined_carried (undone_step lens ls h c) behind) (λ more next. hub_undone_behind lens ls more next es)) o
   first_edit behind h e es o is =
-      ap (option_and_then (undone_first lens (λ c. joined_carried (undone_step lens ls h c) behind) (λ more next. undone_behind lens ls more next es))) is
+      ap (option_and_then (hub_undone_first lens (λ c. joined_carried (undone_step lens ls h c) behind) (λ more next. hub_undone_behind lens ls more next es))) is
 
   over_one : (h : HubTree) (e : Place × WordTree) (g : HubTree) (words : CarriedTree) → UndoesEdit lens ls h e g (Some words) → StepsOver lens ls h (e ∷ []) (words ∷ []) g
   over_one h e g words u = record {
     goes = λ behind more. first_edit behind h e more (Some (Ok (g, u.0))) u.1
-        ∙ ap (λ (x : CarriedTree). undone_behind lens ls (joined_carried x behind) g more) (sym u.2);
+        ∙ ap (λ (x : CarriedTree). hub_undone_behind lens ls (joined_carried x behind) g more) (sym u.2);
     back = λ behind was b. back_then lens ls words behind g h was u.3 b;
     views = (words_count lens ls words g h u.3, tt);
   }
 
-  fail_one : (h : HubTree) (e : Place × WordTree) (why : ViewRefusal) → step lens ls h e ≡ Some (Err why) → Fails lens ls h (e ∷ [])
+  fail_one : (h : HubTree) (e : Place × WordTree) (why : ViewRefusal) → hub_step lens ls h e ≡ Some (Err why) → Fails lens ls h (e ∷ [])
   fail_one h e why is behind more = first_edit behind h e more (Some (Err why)) is
 
   -- ---- one after another
@@ -51,33 +51,33 @@ module _ {L : Type 0} (lens : OfLens.Ghosts L) (ls : List L) where
   over_then : (h g k : HubTree) (es fs : Edits) (ws xs : List CarriedTree) → StepsOver lens ls h es ws g → StepsOver lens ls g fs xs k → StepsOver lens ls h (es ++ fs) (ws ++ xs) k
   over_then h g k es fs ws xs a b = record {
     goes = λ behind more.
-        ap (undone_behind lens ls behind h) (append_assoc es fs more)
+        ap (hub_undone_behind lens ls behind h) (append_assoc es fs more)
         ∙ a.goes behind (fs ++ more)
         ∙ b.goes (in_front ws behind) more
-        ∙ ap (λ (x : CarriedTree). undone_behind lens ls x k more) (sym (front_append ws xs behind));
-    back = λ behind was c. subst (λ (x : CarriedTree). BringsBack lens ls x k was) (sym (front_append ws xs behind)) (b.back (in_front ws behind) was (a.back behind was c));
+        ∙ ap (λ (x : CarriedTree). hub_undone_behind lens ls x k more) (sym (front_append ws xs behind));
+    back = λ behind was c. subst (λ (x : CarriedTree). HubBringsBack lens ls x k was) (sym (front_append ws xs behind)) (b.back (in_front ws behind) was (a.back behind was c));
     views = views_append (length ls) ws xs a.views b.views;
   }
 
   fails_behind : (h g : HubTree) (es fs : Edits) (ws : List CarriedTree) → StepsOver lens ls h es ws g → Fails lens ls g fs → Fails lens ls h (es ++ fs)
   fails_behind h g es fs ws a b behind more =
-      ap (undone_behind lens ls behind h) (append_assoc es fs more) ∙ a.goes behind (fs ++ more) ∙ b (in_front ws behind) more
+      ap (hub_undone_behind lens ls behind h) (append_assoc es fs more) ∙ a.goes behind (fs ++ more) ∙ b (in_front ws behind) more
 
   fails_before : (h : HubTree) (es fs : Edits) → Fails lens ls h es → Fails lens ls h (es ++ fs)
-  fails_before h es fs f behind more = ap (undone_behind lens ls behind h) (append_assoc es fs more) ∙ f behind (fs ++ more)
+  fails_before h es fs f behind more = ap (hub_undone_behind lens ls behind h) (append_assoc es fs more) ∙ f behind (fs ++ more)
 
   -- ---- all of them
 
-  pub all_over : (h : HubTree) (es : Edits) (ws : List CarriedTree) (g : HubTree) → StepsOver lens ls h es ws g → Some (g, joined_all (length ls) ws) ≡ undone lens ls h es
+  pub all_over : (h : HubTree) (es : Edits) (ws : List CarriedTree) (g : HubTree) → StepsOver lens ls h es ws g → Some (g, joined_all (length ls) ws) ≡ hub_undone lens ls h es
   all_over h es ws g s =
-      sym (ap (undone lens ls h) (sym (append-nil es)) ∙ s.goes (no_hub_words (length ls)) [] ∙ ap (λ (x : CarriedTree). Some (g, x)) (all_in_front (length ls) ws s.views))
+      sym (ap (hub_undone lens ls h) (sym (append-nil es)) ∙ s.goes (no_hub_words (length ls)) [] ∙ ap (λ (x : CarriedTree). Some (g, x)) (all_in_front (length ls) ws s.views))
 
-  pub all_back : (h : HubTree) (es : Edits) (ws : List CarriedTree) (g : HubTree) → IsHub lens ls h → StepsOver lens ls h es ws g → BringsBack lens ls (joined_all (length ls) ws) g h
+  pub all_back : (h : HubTree) (es : Edits) (ws : List CarriedTree) (g : HubTree) → IsHub lens ls h → StepsOver lens ls h es ws g → HubBringsBack lens ls (joined_all (length ls) ws) g h
   all_back h es ws g there s =
-      subst (λ (x : CarriedTree). BringsBack lens ls x g h) (all_in_front (length ls) ws s.views) (s.back (no_hub_words (length ls)) h (back_none lens ls h there))
+      subst (λ (x : CarriedTree). HubBringsBack lens ls x g h) (all_in_front (length ls) ws s.views) (s.back (no_hub_words (length ls)) h (back_none lens ls h there))
 
-  pub all_fail : (h : HubTree) (es : Edits) → Fails lens ls h es → None ≡ undone lens ls h es
-  all_fail h es f = sym (ap (undone lens ls h) (sym (append-nil es)) ∙ f (no_hub_words (length ls)) [])
+  pub all_fail : (h : HubTree) (es : Edits) → Fails lens ls h es → None ≡ hub_undone lens ls h es
+  all_fail h es f = sym (ap (hub_undone lens ls h) (sym (append-nil es)) ∙ f (no_hub_words (length ls)) [])
 
 -- ---- the lists
 
@@ -136,7 +136,7 @@ module _ {L : Type 0} (lens : OfLens.Ghosts L) (ls : List L) where
       (hub_carried_tree b ∷ [], pushed parts more b made, over_one lens ls g (edit_tree e) k (hub_carried_tree b) n)
 
   pub edit_fails : (es : List (HubSide × Word)) (i : ℕ) (e : HubSide × Word) (h g : HubTree) (a b : List CarriedTree) (why : ViewRefusal) → i < length es → e ≡ get_or es i e
-      → Steps h (edit_trees (take i es)) a b g → step lens ls g (edit_tree e) ≡ Some (Err why) → Fails lens ls h (edit_trees es)
+      → Steps h (edit_trees (take i es)) a b g → hub_step lens ls g (edit_tree e) ≡ Some (Err why) → Fails lens ls h (edit_trees es)
   edit_fails es i e h g a b why within is s n =
       fails_then h g (edit_trees (take i es)) (edit_tree e ∷ []) (edit_trees (drop (i + 1) es)) (edit_trees (take (i + 1) es)) (edit_trees es) a b
       (edits_more es i e within is) (edits_parted es (i + 1)) s (fail_one lens ls g (edit_tree e) why n)

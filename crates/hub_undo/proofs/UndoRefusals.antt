@@ -5,7 +5,7 @@ use Rattle.std.specs.Prelude.{option_and_then}
 use Rattle.lens_io.specs.declared.disk.Disk as OfDisk
 use Rattle.lens_io.specs.declared.sink.Sink as OfSink
 use Rattle.store_records.specs.declared.record_fault.RecordFault.{RecordFault}
-use Rattle.store_run.specs.Refusals.{Refuses, EndsRefused}
+use Rattle.store_run.specs.Refusals.{WritesRefusal, EndsRefused}
 use Rattle.store_run.specs.declared.refusals.StoreRefusal.{StoreRefusal}
 use Rattle.command_ends.specs.declared.status.Status.{Status}
 use Rattle.hub_records.specs.HubChanges.{HubChangeTree}
@@ -15,10 +15,10 @@ use Rattle.store_undo.specs.Undoing.{payloads_before}
 
 module _ {K D : Type 0} (sink : OfSink.Ghosts K) (disk : OfDisk.Ghosts D) (k k' : K) (d d' : D) (status : Status) where
   -- the line of a refusal that is the one that there is
-  pub same_refusal : (r r' : StoreRefusal) (o : Option StoreRefusal) → o ≡ Some r → o ≡ Some r' → Refuses sink k k' r status → EndsRefused sink disk (k, d) (k', d') r' status
+  pub same_refusal : (r r' : StoreRefusal) (o : Option StoreRefusal) → o ≡ Some r → o ≡ Some r' → WritesRefusal sink k k' r status → EndsRefused sink disk (k, d) (k', d') r' status
   same_refusal r r' o is q ends =
       let same : r ≡ r' = same_Some r r' (sym is ∙ q) in
-      inl (subst (λ (x : StoreRefusal). Refuses sink k k' x status) same ends)
+      inl (subst (λ (x : StoreRefusal). WritesRefusal sink k k' x status) same ends)
 
 -- ---- what undoing comes to is no refusal
 

@@ -7,13 +7,13 @@ use Rattle.edit_module.specs.Words.{WordTree}
 use Rattle.lens_flat.specs.declared.flat.ReadyForm.{ReadyForm}
 use Rattle.lens_forms.specs.Forms.{FormTree, form_tree, left_type, right_type}
 use Rattle.store_records.specs.declared.record_fault.RecordFault.{RecordFault}
-use Rattle.view_hub.specs.Hubs.{ViewTree, HubTree, Place, CarriedTree, ViewRefusal, step}
+use Rattle.view_hub.specs.Hubs.{ViewTree, HubTree, Place, CarriedTree, ViewRefusal, hub_step}
 use Rattle.view_hub.specs.Laws.{AllInStep, IsHub}
 use Rattle.hub_run.specs.FormLenses.{form_lens}
 use Rattle.hub_run.specs.RunStates.{forms_of_lenses, ready_lens}
 use Rattle.hub_run.proofs.MappedLenses.{steps_are}
 use Rattle.hub_records.specs.HubStands.{HubStanding}
-use Rattle.hub_undo.specs.HubUndone.{BringsBack, BringHubBack, BringViewsBack, joined_carried, no_hub_words, undone, undone_behind, undone_first, undone_step, undone_views}
+use Rattle.hub_undo.specs.HubUndone.{HubBringsBack, BringHubBack, BringViewsBack, joined_carried, no_hub_words, hub_undone, hub_undone_behind, hub_undone_first, undone_step, undone_views}
 use Rattle.doc_values.specs.Documents.{DocTree}
 use Rattle.doc_values.specs.Types.{TyTree}
 
@@ -39,23 +39,23 @@ module _ (ls : List ReadyForm) where
   forms = forms_of_lenses ls
 
   first_is : (h : HubTree) (words : CarriedTree) (es : List (Place × WordTree)) (o : Option (Result (HubTree × CarriedTree) ViewRefusal))
-      → ((more : CarriedTree) (next : HubTree) → undone_behind ready_lens ls more next es ≡ undone_behind form_lens forms more next es)
-      → option_and_then (undone_first ready_lens (λ c. joined_carried (undone_step ready_lens ls h c) words) (λ more next. undone_behind ready_lens ls more next es)) o
-      ≡ option_and_then (undone_first form_lens (λ c. joined_carried (undone_step form_lens forms h c) words) (λ more next. undone_behind form_lens forms more next es)) o
+      → ((more : CarriedTree) (next : HubTree) → hub_undone_behind ready_lens ls more next es ≡ hub_undone_behind form_lens forms more next es)
+      → option_and_then (hub_undone_first ready_lens (λ c. joined_carried (undone_step ready_lens ls h c) words) (λ more next. hub_undone_behind ready_lens ls more next es)) o
+      ≡ option_and_then (hub_undone_first form_lens (λ c. joined_carried (undone_step form_lens forms h c) words) (λ more next. hub_undone_behind form_lens forms more next es)) o
   first_is h words es (Some (Ok s)) same =
-      same (joined_carried (undone_step ready_lens ls h s.1) words) s.0 ∙ ap (λ c. undone_behind form_lens forms (joined_carried c words) s.0 es) (step_is ls h s.1)
+      same (joined_carried (undone_step ready_lens ls h s.1) words) s.0 ∙ ap (λ c. hub_undone_behind form_lens forms (joined_carried c words) s.0 es) (step_is ls h s.1)
   first_is h words es (Some (Err why)) same = refl
   first_is h words es None same = refl
 
-  behind_is : (words : CarriedTree) (h : HubTree) (es : List (Place × WordTree)) → undone_behind ready_lens ls words h es ≡ undone_behind form_lens forms words h es
+  behind_is : (words : CarriedTree) (h : HubTree) (es : List (Place × WordTree)) → hub_undone_behind ready_lens ls words h es ≡ hub_undone_behind form_lens forms words h es
   behind_is words h [] = refl
   behind_is words h (e ∷ es) =
-      first_is h words es (step ready_lens ls h e) (λ more next. behind_is more next es)
-      ∙ ap (option_and_then (undone_first form_lens (λ c. joined_carried (undone_step form_lens forms h c) words) (λ more next. undone_behind form_lens forms more next es)))
+      first_is h words es (hub_step ready_lens ls h e) (λ more next. behind_is more next es)
+      ∙ ap (option_and_then (hub_undone_first form_lens (λ c. joined_carried (undone_step form_lens forms h c) words) (λ more next. hub_undone_behind form_lens forms more next es)))
       (steps_are form_of form_lens ls h e)
 
-  pub undone_is : (h : HubTree) (es : List (Place × WordTree)) → undone ready_lens ls h es ≡ undone form_lens forms h es
-  undone_is h es = behind_is (no_hub_words (length ls)) h es ∙ ap (λ n. undone_behind form_lens forms (no_hub_words n) h es) (sym (length-map ls form_of))
+  pub undone_is : (h : HubTree) (es : List (Place × WordTree)) → hub_undone ready_lens ls h es ≡ hub_undone form_lens forms h es
+  undone_is h es = behind_is (no_hub_words (length ls)) h es ∙ ap (λ n. hub_undone_behind form_lens forms (no_hub_words n) h es) (sym (length-map ls form_of))
 
 -- ---- taking back
 
@@ -73,7 +73,7 @@ hub_back : (ls : List ReadyForm) (w : WordTree) (now was : DocTree) → BringHub
 hub_back [] w now was b = tt
 hub_back (l ∷ ls) w now was b = b
 
-pub forms_back : (ls : List ReadyForm) (words : CarriedTree) (now was : HubTree) → BringsBack ready_lens ls words now was → BringsBack form_lens (forms_of_lenses ls) words now was
+pub forms_back : (ls : List ReadyForm) (words : CarriedTree) (now was : HubTree) → HubBringsBack ready_lens ls words now was → HubBringsBack form_lens (forms_of_lenses ls) words now was
 forms_back ls words now was b =
     record { hub_back = hub_back ls words.hub now.hub was.hub b.hub_back; views_back = views_back ls words.views now.views was.views b.views_back }
 

@@ -20,7 +20,7 @@ use Rattle.store_records.specs.declared.record_fault.RecordFault.TheVariants as 
 use Rattle.store_run.specs.declared.refusals.StoreRefusal.{StoreRefusal}
 use Rattle.store_run.specs.declared.refusals.StoreRefusal.TheVariants.{NotALog, BadRecord, NotConsistent, NothingToUndo}
 use Rattle.store_undo.specs.Undoing.{payloads_before}
-use Rattle.hub_undo.specs.HubUndone.{BringsBack, undone}
+use Rattle.hub_undo.specs.HubUndone.{HubBringsBack, hub_undone}
 
 -- ---- the last changes
 
@@ -56,7 +56,7 @@ pub record HubUndoing : Type 0 where
 abbrev pub hub_undoing_from : HubStanding → List HubChangeTree → Result HubStanding RecordFault → Option HubUndoing
 hub_undoing_from now changes (Ok was) =
     option_map (λ r. record { now = now; before = was.hub; words = r.1 })
-    (undone form_lens was.forms was.hub (edits_of_all changes))
+    (hub_undone form_lens was.forms was.hub (edits_of_all changes))
 hub_undoing_from now changes (Err fault) = None
 
 abbrev pub hub_undoing_of : ℕ → List (List ℕ) → Result HubStanding RecordFault → Option HubUndoing
@@ -92,7 +92,7 @@ hub_undo_text u = words_text u.words ++ hub_state_lines u.now.forms u.before
 -- The words act on the documents that there are now, and make those from before the last changes. That hub is in step,
 -- and with the snapshot behind the payloads it is what the store represents.
 pub record HubTakesBack (held : List (List ℕ)) (u : HubUndoing) : Type 0 where
-  pub words : BringsBack form_lens u.now.forms u.words u.now.hub u.before
+  pub words : HubBringsBack form_lens u.now.forms u.words u.now.hub u.before
   pub in_step : IsHub form_lens u.now.forms u.before
   pub stand : stands_as_hub (held ++ hub_undo_snapshot_text u ∷ []) ≡ Ok (record u.now { hub = u.before })
 

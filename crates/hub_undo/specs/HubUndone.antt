@@ -1,5 +1,5 @@
--- The words that take all documents of a hub back over some edits. Read it from the end: `BringsBack`, `undone`, then
--- `undone_step`.
+-- The words that take all documents of a hub back over some edits. Read it from the end: `HubBringsBack`, `hub_undone`,
+-- then `undone_step`.
 use Rattle.std.specs.Prelude.{◌≡◌, ℕ, zero, suc, List, [], ◌∷◌, Option, Some, None, option_and_then}
 use Rattle.std.specs.Prelude.{length, Result, Ok, Err}
 use Rattle.doc_values.specs.Documents.{DocTree}
@@ -7,7 +7,7 @@ use Rattle.edit_inverse.specs.Inverse.{inverse}
 use Rattle.edit_module.specs.Action.{act}
 use Rattle.edit_module.specs.Words.{WordTree, no_primitives, joined}
 use Rattle.lens_core.specs.declared.lens.EditLens as OfLens
-use Rattle.view_hub.specs.Hubs.{ViewTree, HubTree, Place, CarriedTree, ViewRefusal, step}
+use Rattle.view_hub.specs.Hubs.{ViewTree, HubTree, Place, CarriedTree, ViewRefusal, hub_step}
 
 -- ---- words of all documents
 
@@ -48,24 +48,26 @@ module _ {L : Type 0} (lens : OfLens.Ghosts L) where
   -- ---- edits, one after another
 
   -- the edit was accepted, and the others go on from its hub, with the words that take it back in front of the others
-  abbrev pub undone_first : (CarriedTree → CarriedTree) → (CarriedTree → HubTree → Option (HubTree × CarriedTree))
+  abbrev pub hub_undone_first : (CarriedTree → CarriedTree) → (CarriedTree → HubTree → Option (HubTree × CarriedTree))
       → Result (HubTree × CarriedTree) ViewRefusal → Option (HubTree × CarriedTree)
-  undone_first back others (Ok s) = others (back s.1) s.0
-  undone_first back others (Err why) = None
+  hub_undone_first back others (Ok s) = others (back s.1) s.0
+  hub_undone_first back others (Err why) = None
 
   -- the same for edits behind others, which these words take back
-  abbrev pub undone_behind : List L → CarriedTree → HubTree → List (Place × WordTree) → Option (HubTree × CarriedTree)
-  undone_behind ls words h [] = Some (h, words)
-  undone_behind ls words h (e ∷ es) =
+  abbrev pub hub_undone_behind : List L → CarriedTree → HubTree → List (Place × WordTree)
+      → Option (HubTree × CarriedTree)
+  hub_undone_behind ls words h [] = Some (h, words)
+  hub_undone_behind ls words h (e ∷ es) =
       option_and_then
-      (undone_first (λ c. joined_carried (undone_step ls h c) words) (λ more next. undone_behind ls more next es))
-      (step lens ls h e)
+      (hub_undone_first (λ c. joined_carried (undone_step ls h c) words)
+      (λ more next. hub_undone_behind ls more next es))
+      (hub_step lens ls h e)
 
   -- The hub after some edits, each from the hub that the one before it left, and the words that take its documents back
   -- to those of the first hub. Each word joins, from the last edit to the first, the inverses of the words that acted
   -- on its document. There are none if an edit is refused.
-  abbrev pub undone : List L → HubTree → List (Place × WordTree) → Option (HubTree × CarriedTree)
-  undone ls h es = undone_behind ls (no_hub_words (length ls)) h es
+  abbrev pub hub_undone : List L → HubTree → List (Place × WordTree) → Option (HubTree × CarriedTree)
+  hub_undone ls h es = hub_undone_behind ls (no_hub_words (length ls)) h es
 
   -- ---- what the words do
 
@@ -82,6 +84,6 @@ module _ {L : Type 0} (lens : OfLens.Ghosts L) where
   BringHubBack (l ∷ ls) w now was = act (lens.left_type l) w now ≡ Ok was
 
   -- the words act on all documents that there are now, and make those that there were
-  pub record BringsBack (ls : List L) (words : CarriedTree) (now was : HubTree) : Type 0 where
+  pub record HubBringsBack (ls : List L) (words : CarriedTree) (now was : HubTree) : Type 0 where
     pub hub_back : BringHubBack ls words.hub now.hub was.hub
     pub views_back : BringViewsBack ls words.views now.views was.views

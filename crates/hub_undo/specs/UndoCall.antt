@@ -1,5 +1,5 @@
 -- What the bytes of a disk are to `undo` of a hub, and what it comes to. Read it from the end: `UndoEnds`,
--- `IsSafeUndo`, `UndoesCall`, then `HubToUndo` or `RefusedToUndo`.
+-- `IsSafeHubUndo`, `HubUndoesCall`, then `HubToUndo` or `RefusedHubToUndo`.
 use Rattle.std.specs.Prelude.{◌≡◌, ◌⊎◌, ℕ, List, [], ◌∷◌, ◌++◌, Some}
 use Rattle.lens_io.specs.DiskRuns.{LeavesOnly}
 use Rattle.lens_io.specs.declared.disk.Disk as OfDisk
@@ -24,7 +24,7 @@ module _ {D : Type 0} (disk : OfDisk.Ghosts D) (count : ℕ) (d : D) where
     pub is : hub_undoing count payloads ≡ Some undone
 
   -- The bytes of the disk are known, and `undo` refuses them, for this reason.
-  pub record RefusedToUndo : Type 0 where
+  pub record RefusedHubToUndo : Type 0 where
     pub bytes : List ℕ
     pub told : disk.content d ≡ Some bytes
     pub reason : StoreRefusal
@@ -38,14 +38,14 @@ IsUndoImage held u image =
 module _ {D : Type 0} (disk : OfDisk.Ghosts D) (old new : D) where
   -- An image that a crash now may leave is such an image. An image of a moment since the start of the call is one, too,
   -- or was possible then.
-  pub record IsSafeUndo (held : List (List ℕ)) (u : HubUndoing) : Type 0 where
+  pub record IsSafeHubUndo (held : List (List ℕ)) (u : HubUndoing) : Type 0 where
     pub now : (c : List ℕ) → disk.images new c → IsUndoImage held u c
     pub moments : LeavesOnly disk old new (λ c. disk.images old c ⊎ IsUndoImage held u c)
 
 module _ {K D : Type 0} (sink : OfSink.Ghosts K) (disk : OfDisk.Ghosts D) (old new : K × D) where
   -- The snapshot is stored behind the payloads, and the lines were written. The snapshot and the words take the last
   -- changes back.
-  pub record UndoesCall (held : List (List ℕ)) (u : HubUndoing) : Type 0 where
+  pub record HubUndoesCall (held : List (List ℕ)) (u : HubUndoing) : Type 0 where
     pub stores : StoresOne sink disk old new held (hub_undo_snapshot_text u) (hub_undo_text u)
     pub takes_back : HubTakesBack held u
 

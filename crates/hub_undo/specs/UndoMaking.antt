@@ -16,7 +16,7 @@ use Rattle.hub_records.specs.Views.{hub_change_tree, hub_standing}
 use Rattle.hub_records.specs.WholeInts.{hub_holds_i64s}
 use Rattle.hub_records.specs.declared.change.HubChange.{HubChange}
 use Rattle.store_run.specs.declared.storing.MoreText.{MoreText}
-use Rattle.hub_undo.specs.HubUndone.{BringsBack, undone}
+use Rattle.hub_undo.specs.HubUndone.{HubBringsBack, hub_undone}
 use Rattle.hub_undo.specs.HubUndoing.{HubUndoing, HubTakesBack, edits_of_all, hub_undo_snapshot_text, hub_undo_text}
 use Rattle.hub_undo.specs.HubUndoing.{hub_undoing}
 use Rattle.hub_undo.specs.HubUndoing.{words_text}
@@ -35,7 +35,7 @@ pub record StoodTwice (count : ℕ) (held : List (List ℕ)) (twice : OpenedTwic
 
 -- the hub after these changes of a hub, and the words that take them back
 abbrev pub UndoneBy : List FormTree → HubTree → List HubChangeTree → HubTree × CarriedTree → Type 0
-UndoneBy forms h changes r = undone form_lens forms h (edits_of_all changes) ≡ Some r
+UndoneBy forms h changes r = hub_undone form_lens forms h (edits_of_all changes) ≡ Some r
 
 -- The texts are the snapshot of a hub, which reads as its tree, and the lines of the words that were found with its
 -- state lines. The words take it back, and its ints are i64.
@@ -44,7 +44,7 @@ pub record AreTexts (forms : List FormTree) (h : HubTree) (r : HubTree × Carrie
   pub snapshot : payload ≡ compact_text (tree_of_hub_snapshot forms h)
   pub reads : tree_of_text payload ≡ Some (tree_of_hub_snapshot forms h)
   pub written : lines ≡ words_text r.1 ++ hub_state_lines forms h
-  pub back : BringsBack form_lens forms r.1 r.0 h
+  pub back : HubBringsBack form_lens forms r.1 r.0 h
   pub whole : hub_holds_i64s h ≡ true
 
 -- what is made is what undoing the last changes of these payloads stores and writes

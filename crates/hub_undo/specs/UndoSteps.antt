@@ -3,8 +3,8 @@
 use Rattle.std.specs.Prelude.{◌≡◌, ℕ, Bool, true, false, List, [], ◌∷◌, ◌++◌, length, Option, Some, None, Ok, Err}
 use Rattle.edit_module.specs.Words.{WordTree}
 use Rattle.lens_core.specs.declared.lens.EditLens as OfLens
-use Rattle.view_hub.specs.Hubs.{HubTree, Place, CarriedTree, ViewRefusal, step}
-use Rattle.hub_undo.specs.HubUndone.{BringsBack, joined_carried, no_hub_words, undone_behind, undone_step}
+use Rattle.view_hub.specs.Hubs.{HubTree, Place, CarriedTree, ViewRefusal, hub_step}
+use Rattle.hub_undo.specs.HubUndone.{HubBringsBack, joined_carried, no_hub_words, hub_undone_behind, undone_step}
 
 -- at each document the last of the words, then the one before it, down to the first
 abbrev pub joined_all : ℕ → List CarriedTree → CarriedTree
@@ -26,23 +26,23 @@ module _ {L : Type 0} (lens : OfLens.Ghosts L) where
   -- refused
   abbrev pub UndoesEdit : List L → HubTree → Place × WordTree → HubTree → Option CarriedTree → Type 0
   UndoesEdit ls h e g (Some words) =
-      (c : CarriedTree) × (step lens ls h e ≡ Some (Ok (g, c)))
-      × (words ≡ undone_step lens ls h c) × BringsBack lens ls words g h
-  UndoesEdit ls h e g None = (why : ViewRefusal) × (step lens ls h e ≡ Some (Err why))
+      (c : CarriedTree) × (hub_step lens ls h e ≡ Some (Ok (g, c)))
+      × (words ≡ undone_step lens ls h c) × HubBringsBack lens ls words g h
+  UndoesEdit ls h e g None = (why : ViewRefusal) × (hub_step lens ls h e ≡ Some (Err why))
 
   -- These edits go from the one hub to the other, whatever edits follow and whatever words are behind theirs.
   pub record StepsOver (ls : List L) (h : HubTree) (es : List (Place × WordTree)) (words : List CarriedTree)
       (g : HubTree) : Type 0 where
-    pub goes : (behind : CarriedTree) (more : List (Place × WordTree)) → undone_behind lens ls behind h (es ++ more)
-        ≡ undone_behind lens ls (in_front words behind) g more
-    pub back : (behind : CarriedTree) (was : HubTree) → BringsBack lens ls behind h was
-        → BringsBack lens ls (in_front words behind) g was
+    pub goes : (behind : CarriedTree) (more : List (Place × WordTree)) → hub_undone_behind lens ls behind h (es ++ more)
+        ≡ hub_undone_behind lens ls (in_front words behind) g more
+    pub back : (behind : CarriedTree) (was : HubTree) → HubBringsBack lens ls behind h was
+        → HubBringsBack lens ls (in_front words behind) g was
     pub views : HasViews (length ls) words
 
   -- an edit among these is refused, whatever edits follow
   abbrev pub Fails : List L → HubTree → List (Place × WordTree) → Type 0
   Fails ls h es = (behind : CarriedTree) (more : List (Place × WordTree))
-      → undone_behind lens ls behind h (es ++ more) ≡ None
+      → hub_undone_behind lens ls behind h (es ++ more) ≡ None
 
   -- The edits were stepped, and their words were added to those from before. Or an edit is refused.
   abbrev pub Stepping : List L → Bool → HubTree → List (Place × WordTree) → List CarriedTree → List CarriedTree

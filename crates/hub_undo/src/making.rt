@@ -7,7 +7,7 @@ ghost use Rattle.hub_run.specs.FormLenses.{form_lens};
 ghost use Rattle.hub_run.specs.RunStates.{forms_of_lenses};
 ghost use Rattle.hub_records.specs.HubStands.{stands_as_hub};
 ghost use Rattle.hub_records.specs.Outcomes.{IsStandFault};
-ghost use Rattle.hub_undo.specs.HubUndone.{BringsBack};
+ghost use Rattle.hub_undo.specs.HubUndone.{HubBringsBack};
 ghost use Rattle.hub_undo.specs.HubUndoing.{hub_changes_of, last_hub_changes, hub_undo_refusal};
 ghost use Rattle.hub_undo.specs.UndoMaking.{AreTexts, IsMade, StoodTwice, UndoneBy, change_trees};
 ghost use Rattle.store_undo.specs.Making.{IsMakingFault};
@@ -137,7 +137,7 @@ fn words_of(
     ensures words { IfOk result (λ words. (r : HubTree × CarriedTree)
         → UndoneBy (forms_of_lenses hub.old.lenses) (hub_tree hub.old.parts) (change_trees changes.now) r
         → (hub_carried_tree words ≡ r.1)
-        × BringsBack form_lens (forms_of_lenses hub.old.lenses) r.1 r.0 (hub_tree hub.old.parts)) }
+        × HubBringsBack form_lens (forms_of_lenses hub.old.lenses) r.1 r.0 (hub_tree hub.old.parts)) }
     ensures lenses { hub.new.lenses ≡ hub.old.lenses }
     ensures parts { IfOk result (λ _. hub_tree hub.new.parts ≡ hub_tree hub.old.parts) }
 {

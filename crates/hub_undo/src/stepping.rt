@@ -13,7 +13,7 @@ ghost use Rattle.view_hub.specs.Hubs.{HubTree, ViewTree};
 ghost use Rattle.view_hub.specs.Views.{hub_carried_tree, edit_tree, edit_trees, hub_tree, view_trees};
 ghost use Rattle.hub_undo.specs.HubUndoing.{edits_of_all};
 ghost use Rattle.hub_undo.specs.UndoMaking.{change_trees};
-ghost use Rattle.hub_undo.specs.HubUndone.{BringsBack, BringViewsBack, undone, undone_step, undone_views};
+ghost use Rattle.hub_undo.specs.HubUndone.{HubBringsBack, BringViewsBack, hub_undone, undone_step, undone_views};
 ghost use Rattle.hub_undo.specs.UndoSteps.{Stepping, UndoesEdit};
 ghost use Rattle.hub_undo.specs.UndoViews.{carried_trees};
 
@@ -43,10 +43,10 @@ pub fn undo_changes<L: EditLens>(
 ) -> Result<Option<HubCarried>, AllocError>
     ensures undone { IfOk result (λ words.
         option_map (λ w. (hub_tree hub.new.parts, hub_carried_tree w)) words
-        ≡ undone L.EditLens hub.old.lenses (hub_tree hub.old.parts)
+        ≡ hub_undone L.EditLens hub.old.lenses (hub_tree hub.old.parts)
         (edits_of_all (change_trees changes.now))) }
     ensures brings_back { IfOk result (λ words. IfSome words (λ w.
-        BringsBack L.EditLens hub.old.lenses (hub_carried_tree w) (hub_tree hub.new.parts) (hub_tree hub.old.parts))) }
+        HubBringsBack L.EditLens hub.old.lenses (hub_carried_tree w) (hub_tree hub.new.parts) (hub_tree hub.old.parts))) }
     ensures lenses { hub.new.lenses ≡ hub.old.lenses }
 {
     // The proof needs that the hub is in step, which this call says.
@@ -136,7 +136,7 @@ fn words_back<L: EditLens>(
         ≡ undone_step L.EditLens lenses.now (hub_tree parts.now) (hub_carried_tree carried.now)) }
     ensures back { IfOk result (λ words. (after : HubTree)
         → ActsTo L.EditLens lenses.now (hub_tree parts.now) (hub_carried_tree carried.now) after
-        → BringsBack L.EditLens lenses.now (hub_carried_tree words) after (hub_tree parts.now)) }
+        → HubBringsBack L.EditLens lenses.now (hub_carried_tree words) after (hub_tree parts.now)) }
 {
     let hub = word_back(alloc, lenses[0].ty(Side::Left), &carried.hub, &parts.hub)?;
     let views = views_back(alloc, lenses, &parts.views, carried.views.as_slice())?;

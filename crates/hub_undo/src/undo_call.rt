@@ -6,11 +6,11 @@ ghost use Rattle.store_run.specs.Effects.{StandsOn};
 ghost use Rattle.store_run.specs.Refusals.{IsUnwritten, EndsRefused};
 ghost use Rattle.store_run.specs.Rooms.{most_bytes};
 ghost use Rattle.store_run.specs.declared.refusals.StoreRefusal.{StoreRefusal};
-ghost use Rattle.store_run.specs.MoreCall.{Exits, IsUntouched};
+ghost use Rattle.store_run.specs.MoreCall.{ExitsMore, IsUntouched};
 ghost use Rattle.store_run.specs.MoreCauses.{IsMoreCause, OneHasNoRoom};
 ghost use Rattle.hub_undo.specs.HubUndoing.{HubUndoing, hub_undo_snapshot_text, hub_undo_refusal, hub_undo_text};
 ghost use Rattle.hub_undo.specs.HubUndoing.{hub_undoing};
-ghost use Rattle.hub_undo.specs.UndoCall.{HubToUndo, IsSafeUndo, RefusedToUndo, UndoEnds, UndoesCall};
+ghost use Rattle.hub_undo.specs.UndoCall.{HubToUndo, IsSafeHubUndo, RefusedHubToUndo, UndoEnds, HubUndoesCall};
 
 use crate::making::make;
 use command_ends::Status;
@@ -43,12 +43,12 @@ use store_undo::MakingFault;
 ///   if that device failed.
 pub fn undo_hub<K: Sink, D: Disk>(alloc: Global, count: u64, sink: &mut K, disk: &mut D) -> Status
     ensures undoes { (store : HubToUndo D.Disk count disk.old) → result ≡ Status.Done
-        → UndoesCall K.Sink D.Disk (sink.old, disk.old) (sink.new, disk.new) store.payloads store.undone }
+        → HubUndoesCall K.Sink D.Disk (sink.old, disk.old) (sink.new, disk.new) store.payloads store.undone }
     ensures safe { (store : HubToUndo D.Disk count disk.old)
         → (result ≡ Status.DiskFault) × IsUntouched K.Sink D.Disk (sink.old, disk.old) (sink.new, disk.new)
-        ⊎ IsSafeUndo D.Disk disk.old disk.new store.payloads store.undone }
+        ⊎ IsSafeHubUndo D.Disk disk.old disk.new store.payloads store.undone }
     ensures exits { (store : HubToUndo D.Disk count disk.old)
-        → Exits K.Sink D.Disk (sink.old, disk.old) (sink.new, disk.new) store.payloads
+        → ExitsMore K.Sink D.Disk (sink.old, disk.old) (sink.new, disk.new) store.payloads
         (hub_undo_snapshot_text store.undone) (hub_undo_text store.undone) result }
     ensures causes { (store : HubToUndo D.Disk count disk.old)
         → IsMoreCause D.Disk disk.old store.payloads (hub_undo_snapshot_text store.undone) result }
@@ -57,7 +57,7 @@ pub fn undo_hub<K: Sink, D: Disk>(alloc: Global, count: u64, sink: &mut K, disk:
         → (DiskFailed D.Disk disk.old disk.new → ⊥)
         → (OneHasNoRoom most_bytes store.payloads (hub_undo_snapshot_text store.undone) → ⊥)
         → (result ≡ Status.Done) ⊎ (result ≡ Status.NoMemory) }
-    ensures refused { (other : RefusedToUndo D.Disk count disk.old)
+    ensures refused { (other : RefusedHubToUndo D.Disk count disk.old)
         → IsUnwritten D.Disk disk.old disk.new
         × EndsRefused K.Sink D.Disk (sink.old, disk.old) (sink.new, disk.new) other.reason result }
     ensures statuses { IsStatusAmong quiet_statuses result }

@@ -5,7 +5,7 @@ use Rattle.edit_journal.specs.Lines.{line_of, is_blank}
 use Rattle.edit_journal.specs.Pieces.{has_no_end}
 use Rattle.edit_journal.specs.declared.line.Line.{Line}
 use Rattle.script_input.specs.Lines.{program_part, journal}
-use Rattle.script_run.specs.LineRuns.{last, answer_lines, any_refused, of_steps, run}
+use Rattle.script_run.specs.LineRuns.{last_state, answers_text, any_answer_refused, of_steps, run_lines}
 use Rattle.script_run.specs.Report.{with_state, report_with}
 use Rattle.script_run.specs.declared.line_answers.Answer.{Answer}
 use Rattle.lens_forms.specs.Forms.{FormTree}
@@ -29,9 +29,9 @@ use Rattle.kept_hubs.specs.declared.running.RunningHub.{RunningHub}
 -- the lines take the one state to the other, and these are their answer lines
 record Runs (t : HubState) (n : ℕ) (lines : List Line) (texts : List ℕ) (t' : HubState) : Type 0 where
   pub steps : List (HubState × Answer)
-  pub is_run : run hub_answer t n lines ≡ Some steps
-  pub is_texts : texts ≡ answer_lines steps
-  pub comes_to : t' ≡ last t steps
+  pub is_run : run_lines hub_answer t n lines ≡ Some steps
+  pub is_texts : texts ≡ answers_text steps
+  pub comes_to : t' ≡ last_state t steps
 
 -- ---- one line
 
@@ -44,11 +44,11 @@ one_line true r m line end lines rest t' is s c =
     let t = hub_state r in
     record {
       steps = c.steps;
-      is_run = ap (λ b. cond b (run hub_answer t r.number lines)
-          (option_and_then (λ (x : HubState × Answer). option_map (λ steps. x ∷ steps) (run hub_answer x.0 (r.number + 1) lines)) (hub_answer t (r.number + 1) line))) is
-          ∙ ap₂ (λ (t : HubState) n. run hub_answer t n lines) (sym (ap hub_state_of s.hub)) (sym s.number) ∙ c.is_run;
+      is_run = ap (λ b. cond b (run_lines hub_answer t r.number lines)
+          (option_and_then (λ (x : HubState × Answer). option_map (λ steps. x ∷ steps) (run_lines hub_answer x.0 (r.number + 1) lines)) (hub_answer t (r.number + 1) line))) is
+          ∙ ap₂ (λ (t : HubState) n. run_lines hub_answer t n lines) (sym (ap hub_state_of s.hub)) (sym s.number) ∙ c.is_run;
       is_texts = ap (λ x. x ++ rest) s.text ∙ c.is_texts;
-      comes_to = c.comes_to ∙ ap (λ (t : HubState). last t c.steps) (ap hub_state_of s.hub);
+      comes_to = c.comes_to ∙ ap (λ (t : HubState). last_state t c.steps) (ap hub_state_of s.hub);
     }
 one_line false r m line end lines rest t' is s c =
     let t = hub_state r in
@@ -60,10 +60,10 @@ one_line false r m line end lines rest t' is s c =
     ∙ ap (λ (forms : List FormTree). Some (answered_with forms (hub_tree m.hub.parts) said)) (ap forms_of_lenses (sym a.lenses)) in
     record {
       steps = x ∷ c.steps;
-      is_run = ap (λ b. cond b (run hub_answer t r.number lines)
-          (option_and_then (λ (x : HubState × Answer). option_map (λ steps. x ∷ steps) (run hub_answer x.0 (r.number + 1) lines)) (hub_answer t (r.number + 1) line))) is
-          ∙ ap (λ n. option_and_then (λ (x : HubState × Answer). option_map (λ steps. x ∷ steps) (run hub_answer x.0 n lines)) (hub_answer t n line)) (sym s.number)
-          ∙ ap (option_and_then (λ (x : HubState × Answer). option_map (λ steps. x ∷ steps) (run hub_answer x.0 m.number lines))) answer_is
+      is_run = ap (λ b. cond b (run_lines hub_answer t r.number lines)
+          (option_and_then (λ (x : HubState × Answer). option_map (λ steps. x ∷ steps) (run_lines hub_answer x.0 (r.number + 1) lines)) (hub_answer t (r.number + 1) line))) is
+          ∙ ap (λ n. option_and_then (λ (x : HubState × Answer). option_map (λ steps. x ∷ steps) (run_lines hub_answer x.0 n lines)) (hub_answer t n line)) (sym s.number)
+          ∙ ap (option_and_then (λ (x : HubState × Answer). option_map (λ steps. x ∷ steps) (run_lines hub_answer x.0 m.number lines))) answer_is
           ∙ ap (option_map (λ steps. x ∷ steps)) c.is_run;
       is_texts = ap₂ (λ x y. x ++ y) a.is_text c.is_texts;
       comes_to = c.comes_to;
@@ -124,18 +124,18 @@ module _ (script : List ℕ) (lines : List (List ℕ)) (texts : List ℕ) (behin
       → Runs (hub_state r) r.number (map line_of lines) texts (hub_state last_one) → IsShow last_one part.State shown → IsReported script (texts ++ shown.text.items)
   reported r last_one shown s c h =
       let first = first_state (forms_of r) in
-      let goes : run hub_answer first 0 (map line_of lines) ≡ Some c.steps = ap₂ (λ (t : HubState) n. run hub_answer t n (map line_of lines)) (sym s.first) (sym s.number) ∙ c.is_run in
+      let goes : run_lines hub_answer first 0 (map line_of lines) ≡ Some c.steps = ap₂ (λ (t : HubState) n. run_lines hub_answer t n (map line_of lines)) (sym s.first) (sym s.number) ∙ c.is_run in
       let is : Some (hub_state_text (hub_state last_one)) ≡ Some shown.text.items = h.text in
       let state_is : hub_state_text (hub_state last_one) ≡ shown.text.items = cc in
-      let text : answer_lines c.steps ++ hub_state_text (last first c.steps) ≡ texts ++ shown.text.items =
+      let text : answers_text c.steps ++ hub_state_text (last_state first c.steps) ≡ texts ++ shown.text.items =
       ap₂ (λ x y. x ++ y) (sym c.is_texts)
-      (ap hub_state_text (ap (λ (t : HubState). last t c.steps) (sym s.first) ∙ sym c.comes_to) ∙ state_is) in
+      (ap hub_state_text (ap (λ (t : HubState). last_state t c.steps) (sym s.first) ∙ sym c.comes_to) ∙ state_is) in
       record {
-        status = status_at_end (any_refused c.steps);
-        finished = ends (any_refused c.steps);
+        status = status_at_end (any_answer_refused c.steps);
+        finished = ends (any_answer_refused c.steps);
         is_report = ap₂ (report_with hub_script) s.lenses (sym behind)
             ∙ ap (λ o. option_map (with_state hub_script) (option_map (of_steps first) o)) goes
-            ∙ ap (λ x. Some (x, status_at_end (any_refused c.steps))) text;
+            ∙ ap (λ x. Some (x, status_at_end (any_answer_refused c.steps))) text;
       }
 
   opened : (r : RunningHub) (last shown : KeptHub) → IsStarted (program_part script) r → IsGiven (kept.Open r) lines texts last → IsShown last part.State outcome.Done shown

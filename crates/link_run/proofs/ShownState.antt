@@ -13,7 +13,7 @@ use Rattle.edit_session.specs.Step.{TripleTree, IsInStep}
 use Rattle.value_json.proofs.Facts.{map_some}
 use Rattle.pair_answers.proofs.InStep.{in_step_fits}
 use Rattle.turn_link.specs.Sites.{LeftTree, RightTree}
-use Rattle.turn_link.specs.Links.{LinkTree, triple_at, left_of, right_of}
+use Rattle.turn_link.specs.Links.{LinkTree, triple_at, left_site_of, right_site_of}
 use Rattle.turn_link.specs.Laws.{IsLinked, AreSites}
 use Rattle.turn_link.proofs.Numbers.{at_most}
 use Rattle.link_run.specs.Answers.{shown_lines, link_state_lines}
@@ -46,8 +46,8 @@ module _ (holds : DocTree → CompTree → DocTree → Type 0) (left : TyTree) (
 
   pub shows : (s : LinkTree) (l : LeftTree) (r : RightTree) → AreSites holds left right start carried s l r → Shows s l r
   shows s l r a =
-      let x = map_some (left_of left right start carried s) (triple_at left right start carried s.made s.left_number) l a.left_is in
-      let y = map_some (right_of left right start carried s) (triple_at left right start carried s.made s.right_number) r a.right_is in
+      let x = map_some (left_site_of left right start carried s) (triple_at left right start carried s.made s.left_number) l a.left_is in
+      let y = map_some (right_site_of left right start carried s) (triple_at left right start carried s.made s.right_number) r a.right_is in
       let turns = a.linked.turns in
       let within : s.left_number ≤ length s.made = omega (arith, turns.all_made, turns.left_near, turns.right_near) in
       let i = in_step_at s a.linked s.left_number within in

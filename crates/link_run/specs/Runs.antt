@@ -40,13 +40,13 @@ abbrev pub link_state_text : FormTree × LinkTree → List ℕ
 link_state_text s = text_or_none (link_state_lines s.0 s.1)
 
 -- a link of the lens of a form that is in turns, by `turns`, with all its parts together
-abbrev pub IsLinkOf : FormTree → LinkTree → Type 0
-IsLinkOf form s = IsLinked (IsConsistent form) (left_type form) (right_type form) (missing form) (translate form) s
+abbrev pub IsFormLink : FormTree → LinkTree → Type 0
+IsFormLink form s = IsLinked (IsConsistent form) (left_type form) (right_type form) (missing form) (translate form) s
 
 -- A link of a run of the lens of this form: it is in turns, and it has state lines.
 pub record IsInTurnsWith (form : FormTree) (s : FormTree × LinkTree) : Type 0 where
   pub lens : s.0 ≡ form
-  pub linked : IsLinkOf form s.1
+  pub linked : IsFormLink form s.1
   pub text : List ℕ
   pub shown : link_state_lines form s.1 ≡ Some text
 

@@ -23,7 +23,7 @@ use Rattle.link_run.specs.EventJson.{event_of_line}
 use Rattle.link_run.specs.Items.{ScriptItem, no_event, link_answered, take_link_item}
 use Rattle.link_run.specs.Answers.{shown_lines}
 use Rattle.link_run.specs.LinkScript.{link_script}
-use Rattle.link_run.specs.Runs.{IsLinkOf, first_link, link_numbered, link_line_answer, IsInTurnsWith}
+use Rattle.link_run.specs.Runs.{IsFormLink, first_link, link_numbered, link_line_answer, IsInTurnsWith}
 
 -- the link of an answer is the link after it
 answered_link : (s : LinkTree) (r : Result (LinkTree × ToldTree) TurnRefusal) → (link_answered s r).0 ≡ link_after s r
@@ -32,7 +32,7 @@ answered_link s (Err why) = refl
 
 module _ (form : FormTree) where
   -- a link with all its parts together has state lines
-  linked_kept : (s : LinkTree) → IsLinkOf form s → IsInTurnsWith form (form, s)
+  linked_kept : (s : LinkTree) → IsFormLink form s → IsInTurnsWith form (form, s)
   linked_kept s k =
       let near = k.left_draft.triple in
       let far = k.right_draft.triple in
@@ -55,7 +55,7 @@ module _ (form : FormTree) where
         ≡ Some r)
         × IsInTurnsWith form r.0
 
-    steps_on : (s : LinkTree) (n : ℕ) (item : ScriptItem) → IsLinkOf form s → StepsOn s n item form
+    steps_on : (s : LinkTree) (n : ℕ) (item : ScriptItem) → IsFormLink form s → StepsOn s n item form
     steps_on s n (Err cause) k = (link_numbered form n (s, no_event cause), refl, linked_kept s k)
     steps_on s n (Ok e) k =
         let g = goes_on (IsConsistent form) (left_type form) (right_type form) (missing form) (translate form)
@@ -63,7 +63,7 @@ module _ (form : FormTree) where
         let next = link_answered s g.0 in (
           link_numbered form n next,
           ap (λ o. option_map (link_numbered form n) (option_map (link_answered s) o)) g.1,
-          linked_kept next.0 (subst (IsLinkOf form) (sym (answered_link s g.0)) g.2),
+          linked_kept next.0 (subst (IsFormLink form) (sym (answered_link s g.0)) g.2),
         )
 
     steps_stay : (t : FormTree × LinkTree) (n : ℕ) (line : Line) → is_blank line ≡ false → IsInTurnsWith form t

@@ -3,7 +3,7 @@ use Rattle.std.proofs.Common.{◌≡◌, ℕ, List, [], ◌∷◌, ◌++◌, Boo
 use Rattle.std.specs.Prelude.{option_map}
 use Rattle.value_json.proofs.Facts.{map_some}
 use Rattle.edit_journal.specs.declared.line.Line.{Line}
-use Rattle.script_run.specs.LineRuns.{answer_lines, last, of_steps, run}
+use Rattle.script_run.specs.LineRuns.{answers_text, last_state, of_steps, run_lines}
 use Rattle.script_input.specs.Lines.{program_part, journal}
 use Rattle.script_input.specs.Coming.{has_separator}
 use Rattle.script_run.specs.ScriptEnds.{answers_with, AnswersBut, AnswersSome}
@@ -28,20 +28,20 @@ module _ {H : Type 0} (script : OfScript.Ghosts H) where
   -- ---- a run that goes on
 
   -- the report of a run over lines and more begins with the answers to the lines
-  report_begins : (t : script.State) (lines more : List Line) (text whole : List ℕ) (status : Status) → option_map answer_lines (run script.answer t 0 lines) ≡ Some text
+  report_begins : (t : script.State) (lines more : List Line) (text whole : List ℕ) (status : Status) → option_map answers_text (run_lines script.answer t 0 lines) ≡ Some text
       → run_report script t (lines ++ more) ≡ Some (whole, status) → BeginsWith whole text
   report_begins t lines more text whole status answers reported =
-      let some = map_some answer_lines (run script.answer t 0 lines) text answers in
-      let written = map_some (with_state script) (option_map (of_steps t) (run script.answer t 0 (lines ++ more))) (whole, status) reported in
-      let all = map_some (of_steps t) (run script.answer t 0 (lines ++ more)) written.0 written.1 in
+      let some = map_some answers_text (run_lines script.answer t 0 lines) text answers in
+      let written = map_some (with_state script) (option_map (of_steps t) (run_lines script.answer t 0 (lines ++ more))) (whole, status) reported in
+      let all = map_some (of_steps t) (run_lines script.answer t 0 (lines ++ more)) written.0 written.1 in
       let on = run-begins script.answer lines more t 0 some.0 all.0 some.1 all.1 in
       let first = answers-begin some.0 on.rest in
-      let state = script.state_text (last t all.0) in
-      let is : whole ≡ answer_lines all.0 ++ state = sym (ap (λ (r : List ℕ × Status). r.0) written.2) ∙ sym (ap (λ w. (with_state script w).0) all.2) in
+      let state = script.state_text (last_state t all.0) in
+      let is : whole ≡ answers_text all.0 ++ state = sym (ap (λ (r : List ℕ × Status). r.0) written.2) ∙ sym (ap (λ w. (with_state script w).0) all.2) in
       record {
         rest = first.rest ++ state;
-        is = is ∙ ap (λ l. answer_lines l ++ state) on.is ∙ ap (λ l. l ++ state) first.is
-            ∙ append_assoc (answer_lines some.0) first.rest state ∙ ap (λ l. l ++ (first.rest ++ state)) some.2;
+        is = is ∙ ap (λ l. answers_text l ++ state) on.is ∙ ap (λ l. l ++ state) first.is
+            ∙ append_assoc (answers_text some.0) first.rest state ∙ ap (λ l. l ++ (first.rest ++ state)) some.2;
       }
 
   -- the same where the program part is accepted or refused

@@ -13,7 +13,7 @@ use Rattle.script_input.specs.Taking.{GaveFew}
 use Rattle.script_input.specs.declared.limits.TheConstants.{MOST_BYTES, PIECE_BYTES}
 use Rattle.script_input.proofs.LastCalls.{but_last}
 use Rattle.script_run.specs.LineEnds.{Stage, AreAnswered, ComesTo, AnswersBefore, AnswersFirst as StreamFirst, StopsRun, EndsRun}
-use Rattle.script_run.specs.LineRuns.{come, answer_lines, of_steps, run, written, written_after}
+use Rattle.script_run.specs.LineRuns.{come, answers_text, of_steps, run_lines, written, written_after}
 use Rattle.script_run.specs.declared.progress.Progress.{Progress}
 use Rattle.script_run.specs.declared.line_answers.Answer.{Answer}
 use Rattle.script_run.specs.declared.stopped.Stopped.{Stopped}
@@ -32,7 +32,7 @@ use Rattle.command_ends.specs.declared.status.Status.{Status}
 use Rattle.script_run.proofs.ScriptEndsHold.{EndsSo, has_part, lines_stay, first_at_part, ended_source, ended_long, ended_memory, ended_sink, ended_report}
 
 -- the answer lines of a run, from what it comes to
-text_of : {T : Type 0} (t : T) (o : Option (List (T × Answer))) (text : List ℕ) (refused : Bool) (state : T) → option_map (of_steps t) o ≡ Some (text, refused, state) → option_map answer_lines o ≡ Some text
+text_of : {T : Type 0} (t : T) (o : Option (List (T × Answer))) (text : List ℕ) (refused : Bool) (state : T) → option_map (of_steps t) o ≡ Some (text, refused, state) → option_map answers_text o ≡ Some text
 text_of t None text refused state e = cc
 text_of {T} t (Some steps) text refused state e =
     let same : of_steps t steps ≡ (text, refused, state) = cc in
@@ -73,8 +73,8 @@ module _ {H S K : Type 0} (script : OfScript.Ghosts H) (stay : EveryRunStaysInSt
     lines = lines;
     ended = lines_whole more ∙ ended;
     are = ap (λ o. answers_with script o lines) (accepted_whole more)
-        ∙ ap (λ u. option_map answer_lines (run script.answer u 0 lines)) (sym first)
-        ∙ text_of old.state (run script.answer old.state 0 lines) text a.refused a.state a.is;
+        ∙ ap (λ u. option_map answers_text (run_lines script.answer u 0 lines)) (sym first)
+        ∙ text_of old.state (run_lines script.answer old.state 0 lines) text a.refused a.state a.is;
     stays = lines_stay script stay (whole more) lines;
   }
 

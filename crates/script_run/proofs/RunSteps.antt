@@ -3,7 +3,7 @@ use Rattle.std.proofs.Common.{◌≡◌, ℕ, ◌+◌, List, [], ◌∷◌, ◌+
 use Rattle.edit_journal.specs.Lines.{is_blank}
 use Rattle.edit_journal.specs.declared.line.Line.{Line}
 use Rattle.script_run.specs.declared.line_answers.Answer.{Answer}
-use Rattle.script_run.specs.LineRuns.{Come, Written, last, answer_lines, any_refused, of_steps, after_progress, run, written, written_after}
+use Rattle.script_run.specs.LineRuns.{Come, Written, last_state, answers_text, any_answer_refused, of_steps, after_progress, run_lines, written, written_after}
 use Rattle.texts.proofs.Tests.{or_false, or_grouped}
 
 abbrev done : {T : Type 0} → List ℕ → Bool → T → Option (Written T)
@@ -19,26 +19,26 @@ module _ {T : Type 0} (answer : T → ℕ → Line → Option (T × Answer)) whe
       → option_map (after_progress t old) (option_map (λ steps. (t', a) ∷ steps) o) ≡ option_map (after_progress t' new) o
   after_item t t' old new a None refused text = refl
   after_item t t' old new a (Some steps) refused text =
-      same_written _ _ _ _ (last t' steps)
-      (sym (append_assoc old.text a.line (answer_lines steps)) ∙ ap (λ x. x ++ answer_lines steps) (sym text))
-      (or_grouped old.refused a.refused (any_refused steps) ∙ ap (λ b. b || any_refused steps) (sym refused))
+      same_written _ _ _ _ (last_state t' steps)
+      (sym (append_assoc old.text a.line (answers_text steps)) ∙ ap (λ x. x ++ answers_text steps) (sym text))
+      (or_grouped old.refused a.refused (any_answer_refused steps) ∙ ap (λ b. b || any_answer_refused steps) (sym refused))
 
   pub item_step : (t t' : T) (old new : Come) (line : Line) (a : Answer) (lines : List Line) → is_blank line ≡ false
       → answer t (old.number + 1) line ≡ Some (t', a) → new.number ≡ old.number + 1
       → new.refused ≡ (old.refused || a.refused) → new.text ≡ old.text ++ a.line
       → written_after answer t old (line ∷ lines) ≡ written_after answer t' new lines
   item_step t t' old new line a lines full taken number refused text =
-      let more : T × Answer → Option (List (T × Answer)) = λ s. option_map (λ steps. s ∷ steps) (run answer s.0 (old.number + 1) lines) in
-      ap (λ b. option_map (after_progress t old) (cond b (run answer t old.number lines) (option_and_then more (answer t (old.number + 1) line)))) full
+      let more : T × Answer → Option (List (T × Answer)) = λ s. option_map (λ steps. s ∷ steps) (run_lines answer s.0 (old.number + 1) lines) in
+      ap (λ b. option_map (after_progress t old) (cond b (run_lines answer t old.number lines) (option_and_then more (answer t (old.number + 1) line)))) full
       ∙ ap (λ o. option_map (after_progress t old) (option_and_then more o)) taken
-      ∙ after_item t t' old new a (run answer t' (old.number + 1) lines) refused text
-      ∙ ap (λ n. option_map (after_progress t' new) (run answer t' n lines)) (sym number)
+      ∙ after_item t t' old new a (run_lines answer t' (old.number + 1) lines) refused text
+      ∙ ap (λ n. option_map (after_progress t' new) (run_lines answer t' n lines)) (sym number)
 
   -- a blank line is passed over
   pub blank_line_step : (t : T) (p : Come) (line : Line) (lines : List Line) → is_blank line ≡ true
       → written_after answer t p (line ∷ lines) ≡ written_after answer t p lines
   blank_line_step t p line lines blank =
-      ap (λ b. option_map (after_progress t p) (cond b (run answer t p.number lines) (option_and_then (λ (s : T × Answer). option_map (λ steps. s ∷ steps) (run answer s.0 (p.number + 1) lines)) (answer t (p.number + 1) line)))) blank
+      ap (λ b. option_map (after_progress t p) (cond b (run_lines answer t p.number lines) (option_and_then (λ (s : T × Answer). option_map (λ steps. s ∷ steps) (run_lines answer s.0 (p.number + 1) lines)) (answer t (p.number + 1) line)))) blank
 
   -- with no lines left, what was written is all
   pub at_end : (t : T) (p : Come) → written_after answer t p [] ≡ Some (p.text, p.refused, t)
@@ -49,9 +49,9 @@ module _ {T : Type 0} (answer : T → ℕ → Line → Option (T × Answer)) whe
       → option_map (after_progress t p) o ≡ option_map (of_steps t) o
   from_nothing t p None refused text = refl
   from_nothing t p (Some steps) refused text =
-      same_written _ _ _ _ (last t steps) (ap (λ x. x ++ answer_lines steps) text) (ap (λ b. b || any_refused steps) refused)
+      same_written _ _ _ _ (last_state t steps) (ap (λ x. x ++ answers_text steps) text) (ap (λ b. b || any_answer_refused steps) refused)
 
   pub at_start : (t : T) (p : Come) (lines : List Line) → p.number ≡ 0 → p.refused ≡ false → p.text ≡ []
       → written_after answer t p lines ≡ written answer t lines
   at_start t p lines number refused text =
-      ap (λ n. option_map (after_progress t p) (run answer t n lines)) number ∙ from_nothing t p (run answer t 0 lines) refused text
+      ap (λ n. option_map (after_progress t p) (run_lines answer t n lines)) number ∙ from_nothing t p (run_lines answer t 0 lines) refused text

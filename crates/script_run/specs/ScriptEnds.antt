@@ -9,7 +9,7 @@ use Rattle.lens_io.specs.declared.sink.Sink as OfSink
 use Rattle.lens_io.specs.declared.source.Source as OfSource
 use Rattle.edit_journal.specs.declared.line.Line.{Line}
 use Rattle.script_input.specs.declared.limits.TheConstants.{MOST_BYTES, PIECE_BYTES}
-use Rattle.script_run.specs.LineRuns.{answer_lines, run, states}
+use Rattle.script_run.specs.LineRuns.{answers_text, run_lines, states}
 use Rattle.script_run.specs.declared.line_answers.Answer.{Answer}
 use Rattle.script_input.specs.Coming.{has_separator, journal_lines, IsWhole}
 use Rattle.script_input.specs.Lines.{program_part, journal}
@@ -59,7 +59,7 @@ module _ {H : Type 0} (script : OfScript.Ghosts H) where
 
   -- the answer lines to these lines of a journal, for a program part that is accepted
   abbrev pub answers_with : Result script.Accepted script.Refusal → List Line → Option (List ℕ)
-  answers_with (Ok program) lines = option_map answer_lines (run script.answer (script.start program) 0 lines)
+  answers_with (Ok program) lines = option_map answers_text (run_lines script.answer (script.start program) 0 lines)
   answers_with (Err refusal) lines = Some []
 
   -- the run over these lines stays in step, if the program part is accepted

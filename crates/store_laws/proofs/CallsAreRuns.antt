@@ -12,7 +12,7 @@ use Rattle.lens_io.specs.declared.sink.Sink as OfSink
 use Rattle.lens_io.specs.declared.source.Source as OfSource
 use Rattle.store_run.specs.Devices.{Devices}
 use Rattle.store_run.specs.ApplyCall.{ContinuesCall, IsSafeCall}
-use Rattle.store_run.specs.StoreRuns.{kept_of, last}
+use Rattle.store_run.specs.StoreRuns.{kept_of, last_stored}
 use Rattle.store_run.specs.Stores.{Store}
 use Rattle.store_run.specs.declared.session.StoredAnswer.{StoredAnswer}
 use Rattle.store_run.specs.declared.session.StoredSession as OfSession
@@ -37,7 +37,7 @@ module _ {S K D A : Type 0} (source : OfSource.Ghosts S) (sink : OfSink.Ghosts K
         lines = p.run_of.first;
         rest = p.run_of.rest ++ rest;
         parts = parts ∙ ap (λ l. l ++ rest) p.run_of.parts ∙ append_assoc p.run_of.first p.run_of.rest rest;
-        after = record { payloads = p.payloads; state = last before.state p.steps; version = p.still; stands = p.stands };
+        after = record { payloads = p.payloads; state = last_stored before.state p.steps; version = p.still; stands = p.stands };
         holds = p.holds;
         run = record { steps = p.steps; is_run = p.run_of.is_run; at_last = refl; stored = p.stored; version = p.version_is };
         least = p.least;
@@ -68,7 +68,7 @@ module _ {S K D A : Type 0} (source : OfSource.Ghosts S) (sink : OfSink.Ghosts K
         bytes = s.bytes;
         took = s.consumes;
         read = s.at_end;
-        after = record { payloads = complete_payloads session before ++ kept_of s.steps; state = last before.state s.steps; version = None; stands = s.stand };
+        after = record { payloads = complete_payloads session before ++ kept_of s.steps; state = last_stored before.state s.steps; version = None; stands = s.stand };
         holds = s.kept;
         run = record { steps = s.steps; is_run = s.is_run; at_last = refl; stored = append-nil (complete_payloads session before ++ kept_of s.steps); version = inr refl };
         version = refl;

@@ -6,7 +6,7 @@ use Rattle.gate_log.specs.LogOnDisk.{HoldsPayloads}
 use Rattle.store_run.proofs.OkLineCounts.{few_kept}
 use Rattle.store_run.specs.Crash.{IsAcknowledged}
 use Rattle.store_run.specs.OkLines.{ok_lines}
-use Rattle.store_run.specs.StoreRuns.{run, last, kept_of}
+use Rattle.store_run.specs.StoreRuns.{run_in_store, last_stored, kept_of}
 use Rattle.store_run.specs.declared.session.StoredAnswer.{StoredAnswer}
 use Rattle.store_run.specs.declared.session.StoredSession as OfSession
 use Rattle.store_laws.proofs.FirstLines.{FirstLines, first_lines}
@@ -23,7 +23,7 @@ module _ {A : Type 0} (session : OfSession.Ghosts A) (before : Payloads) (t : se
     pub steps : List (session.State × StoredAnswer)
     pub run_of : FirstLines session t 0 lines steps
     pub still : Option (List ℕ)
-    pub stands : session.stands_for payloads ≡ Ok (last t steps, still)
+    pub stands : session.stands_for payloads ≡ Ok (last_stored t steps, still)
     pub stored : payloads ++ option_to_list still ≡ (before ++ option_to_list version) ++ kept_of steps
     pub version_is : (payloads ≡ before) ⊎ (still ≡ None)
     pub least : ok_lines given ≤ length (kept_of steps)
@@ -32,13 +32,13 @@ module _ {A : Type 0} (session : OfSession.Ghosts A) (before : Payloads) (t : se
   -- some steps, and what stands behind the first payloads that they kept
   abbrev StandsBehind : List (session.State × StoredAnswer) → Payloads → Type 0
   StandsBehind steps front = (xs : List (session.State × StoredAnswer)) × (ys : List (session.State × StoredAnswer)) × (v : Option (List ℕ))
-      × (steps ≡ xs ++ ys) × (session.stands_for (before ++ front) ≡ Ok (last t xs, v))
+      × (steps ≡ xs ++ ys) × (session.stands_for (before ++ front) ≡ Ok (last_stored t xs, v))
       × (front ++ option_to_list v ≡ option_to_list version ++ kept_of xs) × ((front ≡ []) ⊎ (v ≡ None))
 
   same_front : (front : Payloads) → front ≡ [] → before ++ front ≡ before
   same_front front h = ap (λ l. before ++ l) h ∙ append-nil before
 
-  module _ (lines : List Line) (given image : List ℕ) (steps : List (session.State × StoredAnswer)) (is_run : run session t 0 lines ≡ Some steps) where
+  module _ (lines : List Line) (given image : List ℕ) (steps : List (session.State × StoredAnswer)) (is_run : run_in_store session t 0 lines ≡ Some steps) where
     leaves_front : (front : Payloads) (s : StandsBehind steps front) → HoldsPayloads (before ++ front) image
         → ok_lines given ≤ length (kept_of s.0) → length (kept_of s.0) ≤ ok_lines given + 1 → LeavesPayloads lines given image
     leaves_front front s holds least most = record {

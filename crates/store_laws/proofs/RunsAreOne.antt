@@ -1,7 +1,7 @@
 -- Two runs over a store are one.
 use Rattle.std.proofs.Common.{◌≡◌, ◌⊎◌, inl, inr, ℕ, List, ◌++◌, Option, None, Some, Ok, sym, ap, subst, ◌∙◌, append_assoc}
 use Rattle.edit_journal.specs.declared.line.Line.{Line}
-use Rattle.store_run.specs.StoreRuns.{kept_of, last, run}
+use Rattle.store_run.specs.StoreRuns.{kept_of, last_stored, run_in_store}
 use Rattle.store_run.specs.declared.session.StoredAnswer.{StoredAnswer}
 use Rattle.store_run.specs.declared.session.StoredSession as OfSession
 use Rattle.store_laws.specs.SessionRuns.{IsNumberedAlike, item_lines, accepted_lines, storing_steps}
@@ -14,14 +14,14 @@ module _ {A : Type 0} (session : OfSession.Ghosts A) (alike : IsNumberedAlike se
   t = before.state
 
   -- the second run, from the last state of the first one on
-  goes_on : run session (last t one.steps) 0 second ≡ Some two.steps
-  goes_on = subst (λ u. run session u 0 second ≡ Some two.steps) one.at_last two.is_run
+  goes_on : run_in_store session (last_stored t one.steps) 0 second ≡ Some two.steps
+  goes_on = subst (λ u. run_in_store session u 0 second ≡ Some two.steps) one.at_last two.is_run
 
-  pub both : Joined session alike t (run session t 0 (first ++ second)) one.steps two.steps (item_lines second)
+  pub both : Joined session alike t (run_in_store session t 0 (first ++ second)) one.steps two.steps (item_lines second)
   both = joined session alike t 0 0 first second one.steps two.steps one.is_run goes_on
 
-  pub comes_to : after.state ≡ last (last t one.steps) two.steps
-  comes_to = two.at_last ∙ ap (λ u. last u two.steps) one.at_last
+  pub comes_to : after.state ≡ last_stored (last_stored t one.steps) two.steps
+  comes_to = two.at_last ∙ ap (λ u. last_stored u two.steps) one.at_last
 
   pub stores : complete_payloads session after ≡ complete_payloads session before ++ (kept_of one.steps ++ kept_of two.steps)
   stores =
@@ -51,18 +51,18 @@ module _ {A : Type 0} (session : OfSession.Ghosts A) (alike : IsNumberedAlike se
     is_run = both.is;
     at_last =
         comes_to
-        ∙ sym (same_last session (last t one.steps) (item_lines second) two.steps both.behind both.same)
+        ∙ sym (same_last session (last_stored t one.steps) (item_lines second) two.steps both.behind both.same)
         ∙ sym (last_joined session t one.steps both.behind);
     stored =
         stores
-        ∙ ap (λ l. complete_payloads session before ++ (kept_of one.steps ++ l)) (sym (same_kept session (last t one.steps) (item_lines second) two.steps both.behind both.same))
+        ∙ ap (λ l. complete_payloads session before ++ (kept_of one.steps ++ l)) (sym (same_kept session (last_stored t one.steps) (item_lines second) two.steps both.behind both.same))
         ∙ ap (λ l. complete_payloads session before ++ l) (sym (kept_joined session one.steps both.behind));
     version = versions one.version two.version;
   }
 
   module _ (refused_stays : (t t' : session.State) (n : ℕ) (line : Line) (a : StoredAnswer) → session.answer t n line ≡ Some (t', a) → a.payload ≡ None → t' ≡ t) where
     accepts : RunsAs session alike t 0 (accepted_lines session first one.steps ++ accepted_lines session second two.steps)
-        (storing_steps session one.steps ++ storing_steps session two.steps) (last (last t one.steps) two.steps)
+        (storing_steps session one.steps ++ storing_steps session two.steps) (last_stored (last_stored t one.steps) two.steps)
     accepts = accepted_joined session alike refused_stays t 0 0 first second one.steps two.steps one.is_run goes_on
 
     pub one_run : IsOneRun session before first one.steps second two.steps after

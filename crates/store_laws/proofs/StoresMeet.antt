@@ -2,7 +2,7 @@
 use Rattle.std.proofs.Common.{◌≡◌, List, ◌++◌, Some, None, sym, ap, ◌∙◌, append-nil}
 use Rattle.std.specs.Prelude.{option_to_list}
 use Rattle.edit_journal.specs.declared.line.Line.{Line}
-use Rattle.store_run.specs.StoreRuns.{kept_of, last, run}
+use Rattle.store_run.specs.StoreRuns.{kept_of, last_stored, run_in_store}
 use Rattle.store_run.specs.declared.session.StoredAnswer.{StoredAnswer}
 use Rattle.store_run.specs.declared.session.StoredSession as OfSession
 use Rattle.store_laws.specs.CutStores.{MeetAgain}
@@ -22,7 +22,7 @@ module _ {A : Type 0} (session : OfSession.Ghosts A) (alike : IsNumberedAlike se
   same_steps : whole.steps ≡ joined_run.steps
   same_steps =
       let a = joined_run.is_run in
-      let b : run session before.state 0 (first ++ second) ≡ Some whole.steps = ap (run session before.state 0) (sym parts) ∙ whole.is_run in
+      let b : run_in_store session before.state 0 (first ++ second) ≡ Some whole.steps = ap (run_in_store session before.state 0) (sym parts) ∙ whole.is_run in
       let c : Some whole.steps ≡ Some joined_run.steps = sym b ∙ a in
       cc
 
@@ -37,5 +37,5 @@ module _ {A : Type 0} (session : OfSession.Ghosts A) (alike : IsNumberedAlike se
             sym (all_payloads other h)
             ∙ (whole.stored ∙ ap (λ (steps : List (session.State × StoredAnswer)). complete_payloads session before ++ kept_of steps) same_steps ∙ sym joined_run.stored)
             ∙ all_payloads after k;
-        same_state = whole.at_last ∙ ap (λ (steps : List (session.State × StoredAnswer)). last before.state steps) same_steps ∙ sym joined_run.at_last;
+        same_state = whole.at_last ∙ ap (λ (steps : List (session.State × StoredAnswer)). last_stored before.state steps) same_steps ∙ sym joined_run.at_last;
       }

@@ -12,7 +12,7 @@ use Rattle.lens_io.specs.declared.source.Source as OfSource
 use Rattle.store_run.specs.Devices.{Devices}
 use Rattle.store_run.specs.ApplyCall.{ContinuesCall, IsUnopened, IsSafeCall}
 use Rattle.store_run.specs.OkLines.{ok_lines}
-use Rattle.store_run.specs.StoreRuns.{kept_of, last, text_of}
+use Rattle.store_run.specs.StoreRuns.{kept_of, last_stored, text_of}
 use Rattle.store_run.specs.Stores.{Store}
 use Rattle.store_run.specs.declared.session.StoredSession as OfSession
 use Rattle.command_ends.specs.declared.status.Status.{Status}
@@ -72,7 +72,8 @@ module _ {S K D A : Type 0} (source : OfSource.Ghosts S) (sink : OfSink.Ghosts K
     -- the version record is stored
     pub version : after.version ≡ None
     -- the answers of the run were written, numbered from 1 on, and then its last state
-    pub gave : Gave sink old.sink new.sink (text_of run.steps ++ session.state_text (last before.state run.steps))
+    pub gave : Gave sink old.sink new.sink (text_of run.steps
+        ++ session.state_text (last_stored before.state run.steps))
 
   -- A call failed to open the store. The image that it left was possible before it, and nothing was taken or written.
   pub record StaysClosed (old new : Devices S K D) (status : Status) (image : List ℕ) : Type 0 where

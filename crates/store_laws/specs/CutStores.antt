@@ -2,7 +2,7 @@
 -- Read it from the end: `MeetAgain`, then `EndsALine`.
 use Rattle.std.specs.Prelude.{◌≡◌, ◌⊎◌, ℕ, List, [], ◌∷◌, ◌++◌}
 use Rattle.edit_journal.specs.declared.line.Line.{Line}
-use Rattle.store_run.specs.StoreRuns.{last}
+use Rattle.store_run.specs.StoreRuns.{last_stored}
 use Rattle.store_run.specs.declared.session.StoredAnswer.{StoredAnswer}
 use Rattle.store_run.specs.declared.session.StoredSession as OfSession
 use Rattle.store_laws.specs.SessionRuns.{AreSameSteps, item_lines}
@@ -21,7 +21,7 @@ module _ {A : Type 0} (session : OfSession.Ghosts A) where
     -- the steps of the one call are those of the first and then those of the second, under the numbers that follow
     pub behind : List (session.State × StoredAnswer)
     pub same_steps : steps ≡ first ++ behind
-    pub same : AreSameSteps session (last t first) (item_lines lines) second behind
+    pub same : AreSameSteps session (last_stored t first) (item_lines lines) second behind
     -- it stores the same payloads
     pub same_payloads : other.payloads ≡ after.payloads
     -- they stand for the same state

@@ -13,7 +13,7 @@ use Rattle.store_run.specs.Rooms.{HasNoRoom}
 use Rattle.store_run.proofs.Effects.{if_known}
 use Rattle.store_run.proofs.StoredPayloads.{images_held}
 use Rattle.store_new.specs.Making.{StopsAppending}
-use Rattle.store_new.specs.NewStores.{IsTooLong, EndsThere, HoldsStore, HoldsFirst}
+use Rattle.store_new.specs.NewStores.{IsTooLong, EndsThere, HoldsStore, HoldsFirstOnly}
 use Rattle.gate_log.proofs.Heads.{records_length_append}
 
 -- there is no room for one more payload
@@ -102,7 +102,7 @@ module _ {D : Type 0} (disk : OfDisk.Ghosts D) where
     holds d l held s there = record { read = s.read; crash = λ c now. images_held disk known l d held c s now; ends_there = there }
 
     first_held : (d : D) (l : LogState) (front rest : List (List ℕ)) (payload : List ℕ) → Stands (disk.content d) (disk.images d) l front → EndsThere disk d front
-        → HoldsFirst disk d (front ++ payload ∷ rest)
+        → HoldsFirstOnly disk d (front ++ payload ∷ rest)
     first_held d l front rest payload s there = record { front = front; rest = payload ∷ rest; parts = refl; some = omega arith; holds = holds d l front s there }
 
     stops_behind : (d : D) (l : LogState) (gate : ℕ) (front rest : List (List ℕ)) (payload : List ℕ) (fault : LogFault)

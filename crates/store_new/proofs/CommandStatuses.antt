@@ -13,8 +13,8 @@ use Rattle.store_run.specs.Devices.{devices_of}
 use Rattle.store_run.specs.Refusals.{refusal_line}
 use Rattle.store_run.specs.declared.refusals.StoreRefusal.TheVariants.{LogExists}
 use Rattle.store_new.specs.Command.{PartMeaning, Command}
-use Rattle.store_new.specs.NewEnds.{GivesLine, StopsAfter, MakesStore, Ends, MayRefuse, RefusesAtOnce, IsEnd, IsComplete, Completes}
-use Rattle.store_new.specs.Scripts.{IsAcceptedPart, GoesOn, RefusesPart}
+use Rattle.store_new.specs.NewEnds.{GivesLine, StopsAfter, MakesNewStore, Ends, MayRefuse, RefusesAtOnce, IsEnd, IsCompleteCommand, Completes}
+use Rattle.store_new.specs.Scripts.{IsAcceptedPart, PartGoesOn, RefusesPartWith}
 use Rattle.store_new.specs.NewStores.{IsTooLong, EndsMaking}
 use Rattle.command_ends.specs.Statuses.{IsStatusAmong, import_statuses, init_statuses}
 use Rattle.command_ends.specs.declared.status.Status.{Status}
@@ -33,7 +33,7 @@ given_with sink k k' line ending status (inr (is, given)) = inr is
 
 module _ {S K D : Type 0} (source : OfSource.Ghosts S) (sink : OfSink.Ghosts K) (disk : OfDisk.Ghosts D) (command : Command) (s s' : S) (k k' : K) (d d' : D) (status : Status) where
   -- the store was made
-  pub done : Ends source sink disk command (devices_of s k d) (devices_of s' k' d') status → status ≡ Done → MakesStore source sink disk command (devices_of s k d) (devices_of s' k' d') Done
+  pub done : Ends source sink disk command (devices_of s k d) (devices_of s' k' d') status → status ≡ Done → MakesNewStore source sink disk command (devices_of s k d) (devices_of s' k' d') Done
   done (inl e) is = absurd (by_line (given_with sink k k' (refusal_line LogExists) StoreRefused status e.given)) where
     by_line : (status ≡ StoreRefused) ⊎ (status ≡ SinkFault) → ⊥
     by_line (inl x) = cc
@@ -47,7 +47,7 @@ module _ {S K D : Type 0} (source : OfSource.Ghosts S) (sink : OfSink.Ghosts K) 
     by_line : (status ≡ SomeRefused) ⊎ (status ≡ SinkFault) → ⊥
     by_line (inl x) = cc
     by_line (inr x) = cc
-  done (inr (inr (inr (inr e)))) is = subst (MakesStore source sink disk command (devices_of s k d) (devices_of s' k' d')) is e
+  done (inr (inr (inr (inr e)))) is = subst (MakesNewStore source sink disk command (devices_of s k d) (devices_of s' k' d')) is e
 
 -- ---- how such a command may end
 
@@ -132,7 +132,7 @@ never_refused part bytes status stops is = subst (StopsAfter part bytes) is stop
 -- these bytes were taken
 module _ (part : PartMeaning) {S : Type 0} (source : OfSource.Ghosts S) (s s' : S) (bytes : List ℕ) (took : Took source s s' bytes) (status : Status) where
   -- the program part is accepted, if its separator has come
-  pub accepts_at_once : GoesOn part bytes → (status ≡ ProgramRefused → ⊥) → RefusesAtOnce part source s s' status
+  pub accepts_at_once : PartGoesOn part bytes → (status ≡ ProgramRefused → ⊥) → RefusesAtOnce part source s s' status
   accepts_at_once goes_on other = record { bytes = bytes; took = took; only = λ is. absurd (other is); whole = λ has refusal refused. absurd (never_both part bytes refusal (goes_on has) refused) }
 
   -- the command stopped before its script was known
@@ -145,7 +145,7 @@ module _ (part : PartMeaning) {S : Type 0} (source : OfSource.Ghosts S) (s s' : 
   }
 
   -- the line of a refusal was written, or a prefix of it
-  pub refuses_with : {K : Type 0} (sink : OfSink.Ghosts K) (k k' : K) (line : List ℕ) → RefusesPart part source s s' bytes line → GivesLine sink k k' line ProgramRefused status → RefusesAtOnce part source s s' status
+  pub refuses_with : {K : Type 0} (sink : OfSink.Ghosts K) (k k' : K) (line : List ℕ) → RefusesPartWith part source s s' bytes line → GivesLine sink k k' line ProgramRefused status → RefusesAtOnce part source s s' status
   refuses_with sink k k' line refuses given = record {
     bytes = bytes;
     took = took;
@@ -183,11 +183,11 @@ module _ {S K D : Type 0} (source : OfSource.Ghosts S) (sink : OfSink.Ghosts K) 
   never_found : (o : Option (List ℕ)) (P : List ℕ → Type 0) → o ≡ Some [] → IfSome o (λ before. (0 < length before) × P before) → ⊥
   never_found o P e h = let k = subst (λ x. IfSome x (λ before. (0 < length before) × P before)) e h in omega (arith, k.0)
 
-  memory_complete : (bytes : List ℕ) (status : Status) → status ≡ NoMemory → IsComplete command bytes status
-  memory_complete bytes status is = subst (IsComplete command bytes) (sym is) (record { accepted = λ a room. tt; refused = λ refusal e. tt })
+  memory_complete : (bytes : List ℕ) (status : Status) → status ≡ NoMemory → IsCompleteCommand command bytes status
+  memory_complete bytes status is = subst (IsCompleteCommand command bytes) (sym is) (record { accepted = λ a room. tt; refused = λ refusal e. tt })
 
   -- a command that refuses a script whose program part is accepted
-  own_complete : (bytes : List ℕ) → IsAcceptedPart command.part bytes → IsComplete command bytes SomeRefused
+  own_complete : (bytes : List ℕ) → IsAcceptedPart command.part bytes → IsCompleteCommand command bytes SomeRefused
   own_complete bytes a = record { accepted = λ b room. tt; refused = λ refusal e. absurd (never_both command.part bytes refusal a e) }
 
   -- R, F and G say that the source, the sink or the disk failed
@@ -221,7 +221,7 @@ module _ {S K D : Type 0} (source : OfSource.Ghosts S) (sink : OfSink.Ghosts K) 
     pub by_end : (s s' : S) (k k' : K) (d d' : D) (status : Status) (bytes : List ℕ) (left' : Option (List ℕ)) → Ends source sink disk command (devices_of s k d) (devices_of s' k' d') status
         → source.left s ≡ Some bytes → source.left s' ≡ left'
         → (status ≡ SourceFault → R) → (status ≡ SinkFault → F) → (status ≡ DiskFault → G) → disk.content d ≡ Some []
-        → length bytes ≤ MOST_BYTES → (R → ⊥) → (F → ⊥) → (G → ⊥) → IsComplete command bytes status
+        → length bytes ≤ MOST_BYTES → (R → ⊥) → (F → ⊥) → (G → ⊥) → IsCompleteCommand command bytes status
     by_end s s' k k' d d' status bytes left' (inl e) is is' r f g empty few no_source no_sink no_disk = absurd (never_found (disk.content d) (λ before. e.bytes ≡ []) empty e.some)
     by_end s s' k k' d d' status bytes left' (inr (inl e)) is is' r f g empty few no_source no_sink no_disk =
         let took = as_known s s' bytes left' e.bytes is is' e.took in
@@ -230,8 +230,8 @@ module _ {S K D : Type 0} (source : OfSource.Ghosts S) (sink : OfSink.Ghosts K) 
       same : command.part.accepted (program_part bytes) ≡ command.part.accepted (program_part e.bytes)
       same = ap command.part.accepted (part_of_all bytes left' e.bytes (as_known s s' bytes left' e.bytes is is' e.took) (subst (λ o. IsFixed e.bytes ⊎ IsAtEnd o) is' (fixed_or_read source s s' e.bytes e.refused.whole)))
 
-      by_given : GivesLine sink k k' e.line ProgramRefused status → IsComplete command bytes status
-      by_given (inl (now, given)) = subst (IsComplete command bytes) (sym now) (record {
+      by_given : GivesLine sink k k' e.line ProgramRefused status → IsCompleteCommand command bytes status
+      by_given (inl (now, given)) = subst (IsCompleteCommand command bytes) (sym now) (record {
         accepted = λ a room. absurd (never_both command.part bytes e.refused.refused.refusal a (same ∙ e.refused.refused.is));
         refused = λ refusal x. tt;
       })
@@ -240,12 +240,12 @@ module _ {S K D : Type 0} (source : OfSource.Ghosts S) (sink : OfSink.Ghosts K) 
       same : e.bytes ≡ bytes
       same = sym (all_taken bytes left' e.bytes (as_known s s' bytes left' e.bytes is is' e.took) (subst IsAtEnd is' e.read))
 
-      by_given : GivesLine sink k k' e.line SomeRefused status → IsComplete command bytes status
-      by_given (inl (now, given)) = subst (IsComplete command bytes) (sym now) (own_complete bytes (subst (IsAcceptedPart command.part) same (refuses e.bytes e.line e.refused)))
+      by_given : GivesLine sink k k' e.line SomeRefused status → IsCompleteCommand command bytes status
+      by_given (inl (now, given)) = subst (IsCompleteCommand command bytes) (sym now) (own_complete bytes (subst (IsAcceptedPart command.part) same (refuses e.bytes e.line e.refused)))
       by_given (inr (now, given)) = absurd (no_sink (f now))
     by_end s s' k k' d d' status bytes left' (inr (inr (inr (inr e)))) is is' r f g empty few no_source no_sink no_disk =
         let same : bytes ≡ e.bytes = all_taken bytes left' e.bytes (as_known s s' bytes left' e.bytes is is' e.took) (subst IsAtEnd is' e.read) in
-        subst (λ b. IsComplete command b status) (sym same) (record {
+        subst (λ b. IsCompleteCommand command b status) (sym same) (record {
           accepted = λ a room. made_ends k k' d d' e.payloads e.lines status e.ends f g no_sink no_disk (room e.payloads e.lines e.made);
           refused = λ refusal x. absurd (never_both command.part e.bytes refusal (accepts e.bytes e.payloads e.lines e.made) x);
         })
@@ -260,6 +260,6 @@ module _ {S K D : Type 0} (source : OfSource.Ghosts S) (sink : OfSink.Ghosts K) 
       → (status ≡ SourceFault → SourceFailed source s s') → (status ≡ SinkFault → SinkFailed sink k k') → (status ≡ DiskFault → DiskFailed disk d d')
       → Completes source sink disk command (devices_of s k d) (devices_of s' k' d') status
   complete s s' k k' d d' status ends r f g empty =
-      if_known (source.left s) (λ bytes. length bytes ≤ MOST_BYTES → (SourceFailed source s s' → ⊥) → (SinkFailed sink k k' → ⊥) → (DiskFailed disk d d' → ⊥) → IsComplete command bytes status)
+      if_known (source.left s) (λ bytes. length bytes ≤ MOST_BYTES → (SourceFailed source s s' → ⊥) → (SinkFailed sink k k' → ⊥) → (DiskFailed disk d d' → ⊥) → IsCompleteCommand command bytes status)
       (λ bytes is few no_source no_sink no_disk.
       by_end (SourceFailed source s s') (SinkFailed sink k k') (DiskFailed disk d d') s s' k k' d d' status bytes (source.left s') ends is refl r f g empty few no_source no_sink no_disk)

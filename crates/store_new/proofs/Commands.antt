@@ -19,7 +19,7 @@ use Rattle.store_new.specs.NewEnds.{GivesLine, StopsAfter, Ends}
 use Rattle.store_new.specs.ScriptReading.{ReadsFront, RefusesWith}
 use Rattle.store_new.specs.Making.{EndsStore, EndsPlan}
 use Rattle.store_new.specs.Reading.{status_at}
-use Rattle.store_new.specs.Scripts.{IsAcceptedPart, GoesOn}
+use Rattle.store_new.specs.Scripts.{IsAcceptedPart, PartGoesOn}
 use Rattle.command_ends.specs.declared.status.Status.{Status}
 use Rattle.command_ends.specs.declared.status.Status.TheVariants.{SomeRefused, StoreRefused, DiskFault, NoMemory}
 
@@ -36,7 +36,7 @@ both_some None P Q R f h k = tt
 both_some (Some bytes) P Q R f h k = f bytes h k
 
 -- before anything is taken no separator has come
-nothing_yet : (part : PartMeaning) → GoesOn part []
+nothing_yet : (part : PartMeaning) → PartGoesOn part []
 nothing_yet part has = cc
 
 -- ---- a disk to which nothing is written

@@ -22,12 +22,12 @@ use Rattle.store_new.specs.NewEnds.{StopsAfter}
 use Rattle.store_new.specs.ScriptReading.{ReadsScript, ReadsRefused, ReadsFront}
 use Rattle.store_new.specs.Reading.{status_at}
 use Rattle.accepted_programs.specs.Program.{IsAccepted}
-use Rattle.store_new.specs.Scripts.{IsAcceptedPart, GoesOn, one_program}
+use Rattle.store_new.specs.Scripts.{IsAcceptedPart, PartGoesOn, one_program}
 
 -- ---- a stop
 
 -- before the separator nothing is refused
-none_yet : (part : PartMeaning) (bytes : List ℕ) → has_separator bytes ≡ false → GoesOn part bytes
+none_yet : (part : PartMeaning) (bytes : List ℕ) → has_separator bytes ≡ false → PartGoesOn part bytes
 none_yet part bytes none has = let never : true ≡ false = sym has ∙ none in cc
 
 -- the reading stopped behind a program part that is accepted

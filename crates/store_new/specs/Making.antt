@@ -8,7 +8,7 @@ use Rattle.gate_log.specs.declared.fault.LogFault.TheVariants as log
 use Rattle.store_run.specs.Refusals.{IsUnwritten, refusal_line}
 use Rattle.store_run.specs.declared.refusals.StoreRefusal.TheVariants.{LogExists, LogFull}
 use Rattle.store_new.specs.NewEnds.{GivesLine}
-use Rattle.store_new.specs.NewStores.{IsTooLong, HoldsFirst, EndsMaking}
+use Rattle.store_new.specs.NewStores.{IsTooLong, HoldsFirstOnly, EndsMaking}
 use Rattle.command_ends.specs.declared.status.Status.{Status}
 use Rattle.command_ends.specs.declared.status.Status.TheVariants.{StoreRefused, DiskFault, NoMemory}
 
@@ -23,8 +23,8 @@ module _ {D : Type 0} (disk : OfDisk.Ghosts D) where
   -- What the disk holds if the storing of these payloads stops: the first of them. After a fault of the disk it may
   -- hold any bytes.
   abbrev pub StopsAppending : D → List (List ℕ) → LogFault → Type 0
-  StopsAppending d payloads log.LogFull = IsTooLong payloads × HoldsFirst disk d payloads
-  StopsAppending d payloads log.NoMemory = HoldsFirst disk d payloads
+  StopsAppending d payloads log.LogFull = IsTooLong payloads × HoldsFirstOnly disk d payloads
+  StopsAppending d payloads log.NoMemory = HoldsFirstOnly disk d payloads
   StopsAppending d payloads log.DiskFault = Unit {0}
   StopsAppending d payloads fault = ⊥
 

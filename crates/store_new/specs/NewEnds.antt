@@ -12,7 +12,7 @@ use Rattle.store_run.specs.Devices.{Devices}
 use Rattle.store_run.specs.Refusals.{IsUnwritten, refusal_line}
 use Rattle.store_run.specs.declared.refusals.StoreRefusal.TheVariants.{LogExists}
 use Rattle.store_new.specs.Command.{PartMeaning, Command}
-use Rattle.store_new.specs.Scripts.{IsAcceptedPart, GoesOn, RefusesPart}
+use Rattle.store_new.specs.Scripts.{IsAcceptedPart, PartGoesOn, RefusesPartWith}
 use Rattle.store_new.specs.NewStores.{IsTooLong, EndsMaking}
 use Rattle.command_ends.specs.declared.status.Status.{Status}
 use Rattle.command_ends.specs.declared.status.Status.TheVariants.{Done, SomeRefused, ProgramRefused, StoreRefused}
@@ -30,8 +30,8 @@ module _ {K : Type 0} (sink : OfSink.Ghosts K) (old new : K) where
 -- come only before the separator or behind a program part that is accepted. The disk fails here only before anything is
 -- taken.
 abbrev pub StopsAfter : PartMeaning → List ℕ → Status → Type 0
-StopsAfter part bytes SourceFault = (length bytes ≤ MOST_BYTES) × GoesOn part bytes
-StopsAfter part bytes InputTooLong = (MOST_BYTES < length bytes) × GoesOn part bytes
+StopsAfter part bytes SourceFault = (length bytes ≤ MOST_BYTES) × PartGoesOn part bytes
+StopsAfter part bytes InputTooLong = (MOST_BYTES < length bytes) × PartGoesOn part bytes
 StopsAfter part bytes DiskFault = bytes ≡ []
 StopsAfter part bytes NoMemory = Unit {0}
 StopsAfter part bytes status = ⊥
@@ -45,7 +45,7 @@ module _ {S K D : Type 0} (source : OfSource.Ghosts S) (sink : OfSink.Ghosts K) 
     pub bytes : List ℕ
     pub took : Took source old.source new.source bytes
     pub within : length bytes ≤ MOST_BYTES
-    pub goes_on : GoesOn command.part bytes
+    pub goes_on : PartGoesOn command.part bytes
     pub some : IfSome (disk.content old.disk) (λ before. (0 < length before) × (bytes ≡ []))
     pub unwritten : IsUnwritten disk old.disk new.disk
     pub given : GivesLine sink old.sink new.sink (refusal_line LogExists) StoreRefused status
@@ -66,7 +66,7 @@ module _ {S K D : Type 0} (source : OfSource.Ghosts S) (sink : OfSink.Ghosts K) 
     pub took : Took source old.source new.source bytes
     pub at_most : length bytes ≤ MOST_BYTES + 1
     pub line : List ℕ
-    pub refused : RefusesPart command.part source old.source new.source bytes line
+    pub refused : RefusesPartWith command.part source old.source new.source bytes line
     pub was_empty : IfSome (disk.content old.disk) (λ before. length before ≡ 0)
     pub unwritten : IsUnwritten disk old.disk new.disk
     pub given : GivesLine sink old.sink new.sink line ProgramRefused status
@@ -85,7 +85,7 @@ module _ {S K D : Type 0} (source : OfSource.Ghosts S) (sink : OfSink.Ghosts K) 
     pub given : GivesLine sink old.sink new.sink line SomeRefused status
 
   -- The script was read to its end, the disk was empty, and the making of its store ended so.
-  pub record MakesStore : Type 0 where
+  pub record MakesNewStore : Type 0 where
     pub bytes : List ℕ
     pub took : Took source old.source new.source bytes
     pub read : IsRead source old.source new.source
@@ -98,7 +98,7 @@ module _ {S K D : Type 0} (source : OfSource.Ghosts S) (sink : OfSink.Ghosts K) 
 
   -- how the command ends
   abbrev pub Ends : Type 0
-  Ends = FindsStore ⊎ StopsEarly ⊎ RefusesProgram ⊎ RefusesScript ⊎ MakesStore
+  Ends = FindsStore ⊎ StopsEarly ⊎ RefusesProgram ⊎ RefusesScript ⊎ MakesNewStore
 
 -- ---- the refusal of a program part
 
@@ -116,7 +116,7 @@ pub record RefusesAtOnce (part : PartMeaning) {S : Type 0} (source : OfSource.Gh
   pub took : Took source old new bytes
   -- After ProgramRefused the part is whole and refused: if the separator has come, it came with the last call of the
   -- source.
-  pub only : status ≡ ProgramRefused → (line : List ℕ) × RefusesPart part source old new bytes line
+  pub only : status ≡ ProgramRefused → (line : List ℕ) × RefusesPartWith part source old new bytes line
   -- If the separator has come and the part is refused, no other status comes, whatever stands behind the separator.
   pub whole : has_separator bytes ≡ true → (refusal : part.Refusal)
       → part.accepted (program_part bytes) ≡ Err refusal → MayRefuse status
@@ -152,7 +152,7 @@ IsRefused status = ⊥
 
 -- A command over these bytes came to its end if the program part is accepted, and there is room for the log; it refused
 -- the program part if that is refused. Or memory ran out.
-pub record IsComplete (command : Command) (bytes : List ℕ) (status : Status) : Type 0 where
+pub record IsCompleteCommand (command : Command) (bytes : List ℕ) (status : Status) : Type 0 where
   pub accepted : IsAcceptedPart command.part bytes
       → ((payloads : List (List ℕ)) (lines : List ℕ) → command.makes bytes payloads lines → IsTooLong payloads → ⊥)
       → IsEnd status
@@ -166,4 +166,4 @@ module _ {S K D : Type 0} (source : OfSource.Ghosts S) (sink : OfSink.Ghosts K) 
   Completes = disk.content old.disk ≡ Some [] → IfSome (source.left old.source) (λ bytes. length bytes ≤ MOST_BYTES
       → (SourceFailed source old.source new.source → ⊥) → (SinkFailed sink old.sink new.sink → ⊥)
       → (DiskFailed disk old.disk new.disk → ⊥)
-      → IsComplete command bytes status)
+      → IsCompleteCommand command bytes status)

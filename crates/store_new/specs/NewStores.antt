@@ -1,5 +1,5 @@
 -- What a disk holds once a store is made on it, or once the making has stopped.
--- Read it from the end: `EndsMaking`, `HoldsFirst`, then `HoldsStore`.
+-- Read it from the end: `EndsMaking`, `HoldsFirstOnly`, then `HoldsStore`.
 use Rattle.std.specs.Prelude.{◌≡◌, ◌⊎◌, ℕ, ◌+◌, ◌^◌, ◌<◌, ◌≤◌, List, [], ◌++◌, length, drop, IfSome}
 use Rattle.lens_io.specs.Calls.{Gave, GaveFront}
 use Rattle.lens_io.specs.declared.disk.Disk as OfDisk
@@ -29,7 +29,7 @@ module _ {D : Type 0} (disk : OfDisk.Ghosts D) where
     pub ends_there : EndsThere d payloads
 
   -- the same of the first of these payloads: none of them, or some, and not all
-  pub record HoldsFirst (d : D) (payloads : List (List ℕ)) : Type 0 where
+  pub record HoldsFirstOnly (d : D) (payloads : List (List ℕ)) : Type 0 where
     pub front : List (List ℕ)
     pub rest : List (List ℕ)
     pub parts : payloads ≡ front ++ rest
@@ -46,9 +46,9 @@ module _ {K D : Type 0} (sink : OfSink.Ghosts K) (disk : OfDisk.Ghosts D) (old n
   EndsMaking Done = HoldsStore disk new.1 payloads × Gave sink old.0 new.0 lines
   EndsMaking SinkFault =
       HoldsStore disk new.1 payloads × GaveFront sink old.0 new.0 lines
-      ⊎ IsTooLong payloads × HoldsFirst disk new.1 payloads × GaveFront sink old.0 new.0 (refusal_line LogFull)
+      ⊎ IsTooLong payloads × HoldsFirstOnly disk new.1 payloads × GaveFront sink old.0 new.0 (refusal_line LogFull)
   EndsMaking StoreRefused =
-      IsTooLong payloads × HoldsFirst disk new.1 payloads × Gave sink old.0 new.0 (refusal_line LogFull)
-  EndsMaking NoMemory = HoldsFirst disk new.1 payloads × Gave sink old.0 new.0 []
+      IsTooLong payloads × HoldsFirstOnly disk new.1 payloads × Gave sink old.0 new.0 (refusal_line LogFull)
+  EndsMaking NoMemory = HoldsFirstOnly disk new.1 payloads × Gave sink old.0 new.0 []
   EndsMaking DiskFault = Gave sink old.0 new.0 []
   EndsMaking status = ⊥

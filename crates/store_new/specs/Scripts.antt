@@ -18,8 +18,8 @@ module _ (part : PartMeaning) where
   IsAcceptedPart bytes = (program : part.Accepted) × (part.accepted (program_part bytes) ≡ Ok program)
 
   -- if the separator has come, the program part is accepted
-  abbrev pub GoesOn : List ℕ → Type 0
-  GoesOn bytes = has_separator bytes ≡ true → IsAcceptedPart bytes
+  abbrev pub PartGoesOn : List ℕ → Type 0
+  PartGoesOn bytes = has_separator bytes ≡ true → IsAcceptedPart bytes
 
   -- the outcome of a program part is a refusal, and this is its line
   pub record IsLineBy (outcome : Result part.Accepted part.Refusal) (line : List ℕ) : Type 0 where
@@ -28,6 +28,7 @@ module _ (part : PartMeaning) where
     pub is_line : line ≡ part.refusal_line refusal
 
   -- the program part of these bytes is whole and refused, and this is the line of that refusal
-  pub record RefusesPart {S : Type 0} (source : OfSource.Ghosts S) (old new : S) (bytes line : List ℕ) : Type 0 where
+  pub record RefusesPartWith {S : Type 0} (source : OfSource.Ghosts S) (old new : S) (bytes line : List ℕ)
+      : Type 0 where
     pub whole : IsWhole source old new bytes
     pub refused : IsLineBy (part.accepted (program_part bytes)) line

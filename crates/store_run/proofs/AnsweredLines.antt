@@ -21,11 +21,11 @@ use Rattle.edit_journal.proofs.Feeding.{lines_at, joins, in_front}
 use Rattle.script_input.specs.Taking.{TakenInput, TakesMore, TakesNone, StopsAt, CallsOnce}
 use Rattle.script_input.specs.declared.limits.TheConstants.{MOST_BYTES}
 use Rattle.script_input.proofs.LastCalls.{but_last}
-use Rattle.store_run.specs.Answered.{Answers, StopsAmong, AllAt, AnswersFirst, StopsPieces, EndsPieces, ComesOn, AnswersThenTakes, StopsTurn}
+use Rattle.store_run.specs.Answered.{Answers, StopsAmong, AllAt, AnswersEndedLines, StopsPieces, EndsPieces, ComesOn, AnswersThenTakes, StopsTurn}
 use Rattle.script_input.specs.Coming.{ended_lines}
-use Rattle.store_run.specs.Effects.{HoldsFirst, StandsOn, Adds, Stops}
+use Rattle.store_run.specs.Effects.{HoldsFirst, StandsOn, Adds, StopsStoring}
 use Rattle.store_run.specs.OkLines.{IsAnswer}
-use Rattle.store_run.specs.StoreRuns.{GoesOver, AreSteps, AreAnsweredIn, last, text_of, kept_of}
+use Rattle.store_run.specs.StoreRuns.{StoreGoesOver, AreSteps, AreAnsweredIn, last_stored, text_of, kept_of}
 use Rattle.store_run.specs.Stopping.{stop_of_input, IsOwnStop}
 use Rattle.store_run.specs.declared.session.StoredAnswer.{StoredAnswer}
 use Rattle.store_run.specs.declared.session.StoredSession as OfSession
@@ -49,15 +49,15 @@ module _ {K D A : Type 0} (sink : OfSink.Ghosts K) (disk : OfDisk.Ghosts D) (ses
       subst (λ (x : List (List ℕ)). Adds sink disk (k, d, l) (k', d', l') text' x) f (subst (λ (x : List ℕ). Adds sink disk (k, d, l) (k', d', l') x kept) e h)
 
   pub stops_as : (k k' : K) (d d' : D) (l l' : LogState) (stop : Stop) (done done' begun begun' : List ℕ) (kept kept' more more' : List (List ℕ)) → done ≡ done' → begun ≡ begun' → kept ≡ kept' → more ≡ more'
-      → Stops sink disk (k, d, l) (k', d', l') stop done begun kept more → Stops sink disk (k, d, l) (k', d', l') stop done' begun' kept' more'
+      → StopsStoring sink disk (k, d, l) (k', d', l') stop done begun kept more → StopsStoring sink disk (k, d, l) (k', d', l') stop done' begun' kept' more'
   stops_as k k' d d' l l' stop done done' begun begun' kept kept' more more' e f i j h =
-      subst (λ (x : List (List ℕ)). Stops sink disk (k, d, l) (k', d', l') stop done' begun' kept' x) j
-      (subst (λ (x : List (List ℕ)). Stops sink disk (k, d, l) (k', d', l') stop done' begun' x more) i
-      (subst (λ (x : List ℕ). Stops sink disk (k, d, l) (k', d', l') stop done' x kept more) f
-      (subst (λ (x : List ℕ). Stops sink disk (k, d, l) (k', d', l') stop x begun kept more) e h)))
+      subst (λ (x : List (List ℕ)). StopsStoring sink disk (k, d, l) (k', d', l') stop done' begun' kept' x) j
+      (subst (λ (x : List (List ℕ)). StopsStoring sink disk (k, d, l) (k', d', l') stop done' begun' x more) i
+      (subst (λ (x : List ℕ). StopsStoring sink disk (k, d, l) (k', d', l') stop done' x kept more) f
+      (subst (λ (x : List ℕ). StopsStoring sink disk (k, d, l) (k', d', l') stop x begun kept more) e h)))
 
   -- out of memory before anything was given or stored
-  pub stops_none : (k : K) (d : D) (l : LogState) (begun : List ℕ) (more : List (List ℕ)) → Stops sink disk (k, d, l) (k, d, l) NoMemory [] begun [] more
+  pub stops_none : (k : K) (d : D) (l : LogState) (begun : List ℕ) (more : List (List ℕ)) → StopsStoring sink disk (k, d, l) (k, d, l) NoMemory [] begun [] more
   stops_none k d l begun more =
       let none = adds_none sink disk only_now images_hold k d l in
       record { given = none.given; stored = none.stored; moments = none.moments; full = tt; behind = none_keeps (l.gate + 0 + records_length more + 1) (disk.content d) }
@@ -92,7 +92,7 @@ module _ {K D A : Type 0} (sink : OfSink.Ghosts K) (disk : OfDisk.Ghosts D) (ses
       → Answers sink disk session (k, d, l) (k', d', l') t p (line ∷ []) t' p'
   answers_one k k' d d' l l' t t' p p' line a full e made is number refused h = record {
     steps = (t', a) ∷ [];
-    goes = subst (λ (n : ℕ). GoesOver session t p.number (line ∷ []) ((t', a) ∷ []) t' n) (sym number) (goes_one session t t' p.number line a full e);
+    goes = subst (λ (n : ℕ). StoreGoesOver session t p.number (line ∷ []) ((t', a) ∷ []) t' n) (sym number) (goes_one session t t' p.number line a full e);
     at_last = refl;
     chain = ((p.number + 1, line, e, made), tt);
     are = (is, tt);
@@ -106,7 +106,7 @@ module _ {K D A : Type 0} (sink : OfSink.Ghosts K) (disk : OfDisk.Ghosts D) (ses
   answers_then k k' k'' d d' d'' l l' l'' t t' t'' p p' p'' lines more a b = record {
     steps = a.steps ++ b.steps;
     goes = goes_then session t t' t'' p.number p'.number p''.number lines more a.steps b.steps a.goes b.goes;
-    at_last = last_append t a.steps b.steps ∙ ap (λ (u : session.State). last u b.steps) a.at_last ∙ b.at_last;
+    at_last = last_append t a.steps b.steps ∙ ap (λ (u : session.State). last_stored u b.steps) a.at_last ∙ b.at_last;
     chain = chain_append session t t' a.steps b.steps a.at_last a.chain b.chain;
     are = are_append a.steps b.steps a.are b.are;
     refused = refused_then p.refused p'.refused p''.refused a.steps b.steps a.refused b.refused;
@@ -137,7 +137,7 @@ module _ {K D A : Type 0} (sink : OfSink.Ghosts K) (disk : OfDisk.Ghosts D) (ses
 
   -- at a line whose answer was made
   pub stops_at : (k k' : K) (d d' : D) (l l' : LogState) (t t' : session.State) (n : ℕ) (line : Line) (a : StoredAnswer) (stop : Stop) → is_blank line ≡ false → session.answer t (n + 1) line ≡ Some (t', a) → session.is_step t (n + 1) line (t', a) → IsAnswer a
-      → Stops sink disk (k, d, l) (k', d', l') stop [] a.line [] (option_to_list a.payload)
+      → StopsStoring sink disk (k, d, l) (k', d', l') stop [] a.line [] (option_to_list a.payload)
       → StopsAmong sink disk session (k, d, l) (k', d', l') t n (line ∷ []) stop
   stops_at k k' d d' l l' t t' n line a stop full e made is h = record {
     lines = line ∷ [];
@@ -205,7 +205,7 @@ module _ {K D A : Type 0} (sink : OfSink.Ghosts K) (disk : OfDisk.Ghosts D) (ses
     begun = s.begun;
     t' = s.t';
     n' = s.n';
-    goes = subst (λ (x : List (session.State × StoredAnswer)). GoesOver session t p.number (lines ++ s.lines) x s.t' s.n') (sym (append_assoc a.steps s.done s.begun))
+    goes = subst (λ (x : List (session.State × StoredAnswer)). StoreGoesOver session t p.number (lines ++ s.lines) x s.t' s.n') (sym (append_assoc a.steps s.done s.begun))
         (goes_then session t t' s.t' p.number p'.number s.n' lines s.lines a.steps (s.done ++ s.begun) a.goes s.goes);
     chain = subst (λ (x : List (session.State × StoredAnswer)). AreSteps session t x) (sym (append_assoc a.steps s.done s.begun)) (chain_append session t t' a.steps (s.done ++ s.begun) a.at_last a.chain s.chain);
     few = s.few;
@@ -218,7 +218,7 @@ module _ {K D A : Type 0} (sink : OfSink.Ghosts K) (disk : OfDisk.Ghosts D) (ses
 
   -- all lines are answered, and nothing is begun
   pub stops_all : (k k' : K) (d d' : D) (l l' : LogState) (t t' : session.State) (p p' : StoreProgress) (lines rest : List Line) (stop : Stop)
-      → ((text : List ℕ) (kept : List (List ℕ)) → Adds sink disk (k, d, l) (k', d', l') text kept → Stops sink disk (k, d, l) (k', d', l') stop text [] kept [])
+      → ((text : List ℕ) (kept : List (List ℕ)) → Adds sink disk (k, d, l) (k', d', l') text kept → StopsStoring sink disk (k, d, l) (k', d', l') stop text [] kept [])
       → Answers sink disk session (k, d, l) (k', d', l') t p lines t' p' → StopsAmong sink disk session (k, d, l) (k', d', l') t p.number (lines ++ rest) stop
   stops_all k k' d d' l l' t t' p p' lines rest stop f a = record {
     lines = lines;
@@ -228,7 +228,7 @@ module _ {K D A : Type 0} (sink : OfSink.Ghosts K) (disk : OfDisk.Ghosts D) (ses
     begun = [];
     t' = t';
     n' = p'.number;
-    goes = subst (λ (x : List (session.State × StoredAnswer)). GoesOver session t p.number lines x t' p'.number) (sym (append-nil a.steps)) a.goes;
+    goes = subst (λ (x : List (session.State × StoredAnswer)). StoreGoesOver session t p.number lines x t' p'.number) (sym (append-nil a.steps)) a.goes;
     chain = subst (λ (x : List (session.State × StoredAnswer)). AreSteps session t x) (sym (append-nil a.steps)) a.chain;
     few = omega arith;
     are_done = a.are;
@@ -245,7 +245,7 @@ module _ {K D A : Type 0} (sink : OfSink.Ghosts K) (disk : OfDisk.Ghosts D) (ses
   behind_all k k' d d' l l' text kept h = keeps_at sink disk only_now images_hold d d' (l'.gate + 1) (l.gate + records_length kept + 0 + 1) (omega (arith, h.gate)) h.behind
 
   pub stops_of : (fault : TakeFault) (k k' : K) (d d' : D) (l l' : LogState) (text : List ℕ) (kept : List (List ℕ)) → Adds sink disk (k, d, l) (k', d', l') text kept
-      → Stops sink disk (k, d, l) (k', d', l') (stop_of_input fault) text [] kept []
+      → StopsStoring sink disk (k, d, l) (k', d', l') (stop_of_input fault) text [] kept []
   stops_of taking.SourceFault k k' d d' l l' text kept h = record { given = h.given; stored = h.stored; moments = adds_nil k k' d d' l l' text kept h; full = tt; behind = behind_all k k' d d' l l' text kept h }
   stops_of taking.TooLong k k' d d' l l' text kept h = record { given = h.given; stored = h.stored; moments = adds_nil k k' d d' l l' text kept h; full = tt; behind = behind_all k k' d d' l l' text kept h }
   stops_of taking.NoMemory k k' d d' l l' text kept h = record { given = h.given; stored = h.stored; moments = adds_nil k k' d d' l l' text kept h; full = tt; behind = behind_all k k' d d' l l' text kept h }
@@ -311,7 +311,7 @@ module _ {K D A : Type 0} (sink : OfSink.Ghosts K) (disk : OfDisk.Ghosts D) (ses
           record { bytes = c.bytes; consumes = c.consumes; at_most = omega (arith, few, c.count); among = among; all = all_own stop (length c.bytes) among.rest (AreAnsweredIn session t p.number (ended_lines c.bytes) (text_of among.done)) own; first = first_behind (text_of s.done) (text_append c.answers.steps s.done) c.first }
         where
           first_behind : (more : List ℕ) → text_of (c.answers.steps ++ s.done) ≡ text_of c.answers.steps ++ more → IsUnasked source i i' ⊎ (later : List Line) × (c.lines ≡ ended_lines (before_last source i i' c.bytes) ++ later)
-              → AnswersFirst source session i i' t p.number c.bytes (text_of (c.answers.steps ++ s.done))
+              → AnswersEndedLines source session i i' t p.number c.bytes (text_of (c.answers.steps ++ s.done))
           first_behind more e (inl unasked) = inl unasked
           first_behind more e (inr h) =
               let front = ended_lines (before_last source i i' c.bytes) in
@@ -360,8 +360,8 @@ module _ {K D A : Type 0} (sink : OfSink.Ghosts K) (disk : OfDisk.Ghosts D) (ses
 
       -- a fault at a piece
       stops_with : (i'' : S) (bytes : List ℕ) (rest : List Line) (stop : Stop) → Took source i i'' bytes → length bytes ≤ MOST_BYTES + 1 → ended_lines bytes ≡ c.lines ++ rest
-          → ((text : List ℕ) (kept : List (List ℕ)) → Adds sink disk (k, d, l) (k', d', l') text kept → Stops sink disk (k, d, l) (k', d', l') stop text [] kept [])
-          → AllAt stop (length bytes) rest (AreAnsweredIn session t p.number (ended_lines bytes) (text_of c.answers.steps)) → AnswersFirst source session i i'' t p.number bytes (text_of c.answers.steps) → StopsPieces source sink disk session (i, k, d, l) (i'', k', d', l') t p.number stop
+          → ((text : List ℕ) (kept : List (List ℕ)) → Adds sink disk (k, d, l) (k', d', l') text kept → StopsStoring sink disk (k, d, l) (k', d', l') stop text [] kept [])
+          → AllAt stop (length bytes) rest (AreAnsweredIn session t p.number (ended_lines bytes) (text_of c.answers.steps)) → AnswersEndedLines source session i i'' t p.number bytes (text_of c.answers.steps) → StopsPieces source sink disk session (i, k, d, l) (i'', k', d', l') t p.number stop
       stops_with i'' bytes rest stop consumes few e f all first =
           record {
             bytes = bytes;
@@ -375,7 +375,7 @@ module _ {K D A : Type 0} (sink : OfSink.Ghosts K) (disk : OfDisk.Ghosts D) (ses
               begun = [];
               t' = t';
               n' = p'.number;
-              goes = subst (λ (x : List (session.State × StoredAnswer)). GoesOver session t p.number c.lines x t' p'.number) (sym (append-nil c.answers.steps)) c.answers.goes;
+              goes = subst (λ (x : List (session.State × StoredAnswer)). StoreGoesOver session t p.number c.lines x t' p'.number) (sym (append-nil c.answers.steps)) c.answers.goes;
               chain = subst (λ (x : List (session.State × StoredAnswer)). AreSteps session t x) (sym (append-nil c.answers.steps)) c.answers.chain;
               few = omega arith;
               are_done = c.answers.are;
@@ -408,7 +408,7 @@ module _ {K D A : Type 0} (sink : OfSink.Ghosts K) (disk : OfDisk.Ghosts D) (ses
         all_here : m.bytes ≡ [] → AreAnsweredIn session t p.number (ended_lines (c.bytes ++ m.bytes)) (text_of c.answers.steps)
         all_here e = subst (λ (x : List Line). AreAnsweredIn session t p.number x (text_of c.answers.steps)) (sym (no_lines e ∙ append-nil c.lines)) all_answered
 
-        all_first : m.bytes ≡ [] → AnswersFirst source session i i'' t p.number (c.bytes ++ m.bytes) (text_of c.answers.steps)
+        all_first : m.bytes ≡ [] → AnswersEndedLines source session i i'' t p.number (c.bytes ++ m.bytes) (text_of c.answers.steps)
         all_first e = inr (answered_take session t p.number (length (c.bytes ++ m.bytes) - source.last i'') (c.bytes ++ m.bytes) (text_of c.answers.steps) (all_here e))
 
         -- what the call gave is lost, and all before it is answered

@@ -18,7 +18,7 @@ use Rattle.gate_log.specs.declared.fault.LogFault.TheVariants as log
 use Rattle.store_run.specs.Devices.{devices_of}
 use Rattle.store_run.specs.Refusals.{IsOpening}
 use Rattle.store_run.specs.Effects.{HoldsFirst, StandsOn}
-use Rattle.store_run.specs.ApplyEnds.{status_of, Exits, Continues, IsSafeFrom}
+use Rattle.store_run.specs.ApplyEnds.{status_of, ExitsApply, Continues, IsSafeFrom}
 use Rattle.store_run.specs.StoreRuns.{text_of, kept_of}
 use Rattle.store_run.specs.ApplyCall.{ContinuesCall, IsSafeCall, EndsOpened}
 use Rattle.store_run.specs.declared.session.StoredAnswer.{StoredAnswer}
@@ -82,7 +82,7 @@ module _ {S K D A : Type 0} (source : OfSource.Ghosts S) (sink : OfSink.Ghosts K
       ended = c.ended;
     }
 
-    pub continues_call : Exits source sink disk session (i, k, d, l) (i', k', d', l') (option_to_list version) t t' status → IsFinished status
+    pub continues_call : ExitsApply source sink disk session (i, k, d, l) (i', k', d', l') (option_to_list version) t t' status → IsFinished status
         → StandsOn disk d l before → session.stands_for before ≡ Ok (t, version) → ContinuesCall source sink disk session (i, k) (devices_of i' k' d') before t version status
     continues_call (inl c) f s h = continued c s h
     continues_call (inr (inl e)) f s h = elim e.short [ inl x ↦ no_stop NoMemory status _ x.0 f | inr x ↦ no_stop SinkFault status _ x.0 f ]
@@ -171,7 +171,7 @@ module _ {S K D A : Type 0} (source : OfSource.Ghosts S) (sink : OfSink.Ghosts K
 
   -- the store was opened on this very disk
   pub opened_here : ((d : D) (c : List ℕ) → disk.images_since d (disk.moment d) c → disk.images d c) → (i i' : S) (k k' : K) (d d' : D) (l l' : LogState) (before : Payloads) (version : Option (List ℕ)) (t t' : session.State) (status : Status)
-      → Exits source sink disk session (i, k, d, l) (i', k', d', l') (option_to_list version) t t' status → StandsOn disk d l before → session.stands_for before ≡ Ok (t, version)
+      → ExitsApply source sink disk session (i, k, d, l) (i', k', d', l') (option_to_list version) t t' status → StandsOn disk d l before → session.stands_for before ≡ Ok (t, version)
       → EndsOpened source sink disk session (devices_of i k d) (devices_of i' k' d') before t version status
   opened_here only i i' k k' d d' l l' before version t t' status exits st h = record {
     d1 = d;

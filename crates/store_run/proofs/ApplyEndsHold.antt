@@ -18,11 +18,11 @@ use Rattle.store_run.specs.Devices.{devices_of}
 use Rattle.store_run.specs.Answered.{Answers, StopsAmong, EndsPieces}
 use Rattle.script_input.specs.Coming.{ended_lines}
 use Rattle.store_run.specs.Crash.{IsAcknowledged, IsCrashSafe}
-use Rattle.store_run.specs.Effects.{HoldsFirst, StandsOn, Adds, Stops}
-use Rattle.store_run.specs.ApplyEnds.{log_full_line, said_at, SaysStop, EndsStored, StopsStored, Continues, Exits, IsSafeFrom}
+use Rattle.store_run.specs.Effects.{HoldsFirst, StandsOn, Adds, StopsStoring}
+use Rattle.store_run.specs.ApplyEnds.{log_full_line, said_at, SaysStop, EndsStored, StopsStored, Continues, ExitsApply, IsSafeFrom}
 use Rattle.store_run.specs.JournalEnds.{EndsJournal, StopsJournal}
 use Rattle.store_run.specs.OkLines.{ok_lines, AreOtherLines}
-use Rattle.store_run.specs.StoreRuns.{GoesOver, AreSteps, AreAnsweredIn, text_of, kept_of}
+use Rattle.store_run.specs.StoreRuns.{StoreGoesOver, AreSteps, AreAnsweredIn, text_of, kept_of}
 use Rattle.store_run.specs.Stopping.{IsOwnStop}
 use Rattle.store_run.specs.declared.session.StoredAnswer.{StoredAnswer}
 use Rattle.store_run.specs.declared.session.StoredSession as OfSession
@@ -123,7 +123,7 @@ module _ {S K D A : Type 0} (source : OfSource.Ghosts S) (sink : OfSink.Ghosts K
         → (status ≡ status_at_end p.refused) × AreOtherLines (session.state_text t') × Gave sink k1 k' (session.state_text t')
         ⊎ (status ≡ ending.SinkFault) × AreOtherLines (session.state_text t') × GaveFront sink k1 k' (session.state_text t')
         ⊎ (status ≡ ending.NoMemory) × Gave sink k1 k' []
-        → Exits source sink disk session (i, k, d, l) (i', k', d', l') version t t' status
+        → ExitsApply source sink disk session (i, k, d, l) (i', k', d', l') version t t' status
     exits_end p status e (inl h) = inl (continues p status e h.0 h.2)
     exits_end p status e (inr (inl h)) = inr (inl (record { k1 = k1; progress = p; ends = e; short = inr (h.0, h.2) }))
     exits_end p status e (inr (inr h)) = inr (inl (record { k1 = k1; progress = p; ends = e; short = inl (h.0, h.1) }))
@@ -132,7 +132,7 @@ module _ {S K D A : Type 0} (source : OfSource.Ghosts S) (sink : OfSink.Ghosts K
 
   -- the journal's share behind the version record's
   module _ (i i' : S) (k k' : K) (d d1 d' : D) (l l1 l' : LogState) (version : Payloads) (t t' : session.State) (n' : ℕ) (bytes : List ℕ) (lines rest : List Line) (steps : List (session.State × StoredAnswer)) where
-    safe_behind : Took source i i' bytes → lines_of bytes ≡ lines ++ rest → GoesOver session t 0 lines steps t' n' → AreSteps session t steps → Adds sink disk (k, d, l) (k, d1, l1) [] version
+    safe_behind : Took source i i' bytes → lines_of bytes ≡ lines ++ rest → StoreGoesOver session t 0 lines steps t' n' → AreSteps session t steps → Adds sink disk (k, d, l) (k, d1, l1) [] version
         → IsCrashSafe sink disk (k, d1, l1) (k', d', l') (kept_of steps) → IsSafeFrom source sink disk session (i, k, d, l) (devices_of i' k' d') version t
     safe_behind consumes parts goes chain a s = record {
       bytes = bytes;
@@ -256,7 +256,7 @@ module _ {S K D A : Type 0} (source : OfSource.Ghosts S) (sink : OfSink.Ghosts K
         unread given consumes appends (λ base s c is. before_it base version given c none (images_hold l' d' (base ++ []) c (stored base s) is)) (λ base s. none_left base (moments base s))
 
     pub safe_unstored : (stop : Stop) (more : List ℕ) → ok_lines more ≡ 0 → IsOwnStop stop → IsUnasked source i i'
-        → Stops sink disk (k, d, l) (k1, d', l') stop [] [] [] version → Gave sink k1 k' more
+        → StopsStoring sink disk (k, d, l) (k1, d', l') stop [] [] [] version → Gave sink k1 k' more
         → IsSafeFrom source sink disk session (i, k, d, l) (devices_of i' k' d') version t
     safe_unstored SourceFault more none own unasked s h = absurd own
     safe_unstored TooLong more none own unasked s h = absurd own

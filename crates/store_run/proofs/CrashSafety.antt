@@ -8,7 +8,7 @@ use Rattle.lens_io.specs.declared.sink.Sink as OfSink
 use Rattle.lens_io.specs.declared.disk.Disk as OfDisk
 use Rattle.gate_log.specs.LogOnDisk.{LogState, HoldsPayloads}
 use Rattle.store_run.specs.Crash.{IsAcknowledged, IsCrashSafe}
-use Rattle.store_run.specs.Effects.{HoldsFirst, StandsOn, Adds, Stops}
+use Rattle.store_run.specs.Effects.{HoldsFirst, StandsOn, Adds, StopsStoring}
 use Rattle.store_run.specs.OkLines.{ok_lines}
 use Rattle.store_run.specs.StoreRuns.{AreAnswers, text_of, kept_of}
 use Rattle.store_run.specs.declared.session.StoredAnswer.{StoredAnswer}
@@ -76,7 +76,7 @@ module _ {K D State : Type 0} (sink : OfSink.Ghosts K) (disk : OfDisk.Ghosts D)
 
   -- the answering stopped
   pub safe_stop : (stop : Stop) (k k' : K) (d d' : D) (l l' : LogState) (done begun : List (State × StoredAnswer)) → AreAnswers done → AreAnswers begun → length begun ≤ 1
-      → Stops sink disk (k, d, l) (k', d', l') stop (text_of done) (text_of begun) (kept_of done) (kept_of begun)
+      → StopsStoring sink disk (k, d, l) (k', d', l') stop (text_of done) (text_of begun) (kept_of done) (kept_of begun)
       → IsCrashSafe sink disk (k, d, l) (k', d', l') (kept_of done ++ kept_of begun)
   safe_stop SinkFault k k' d d' l l' done begun are are_begun few s =
       let front = s.given.0 in
@@ -105,7 +105,7 @@ module _ {K D State : Type 0} (sink : OfSink.Ghosts K) (disk : OfDisk.Ghosts D)
 
   -- the log was full, and then the line of that refusal was given, or a prefix of it
   pub safe_refusal : (k k' k'' : K) (d d' : D) (l l' : LogState) (done begun : List (State × StoredAnswer)) (more : List ℕ) → AreAnswers done → ok_lines more ≡ 0
-      → Stops sink disk (k, d, l) (k', d', l') LogFull (text_of done) (text_of begun) (kept_of done) (kept_of begun) → Gave sink k' k'' more
+      → StopsStoring sink disk (k, d, l) (k', d', l') LogFull (text_of done) (text_of begun) (kept_of done) (kept_of begun) → Gave sink k' k'' more
       → IsCrashSafe sink disk (k, d, l) (k'', d', l') (kept_of done ++ kept_of begun)
   safe_refusal k k' k'' d d' l l' done begun more are none s given =
       safe_done k k'' d d' l l' done (kept_of begun) more are none (Appends-trans (sink.held k) (sink.held k') (sink.held k'') (text_of done) more s.given given) s.stored s.moments

@@ -17,7 +17,7 @@ use Rattle.gate_log.proofs.Behind.{none_keeps, both_keep}
 use Rattle.lens_io.specs.Disks.{Steps}
 use Rattle.gate_log.specs.declared.fault.LogFault.{LogFault}
 use Rattle.gate_log.specs.declared.fault.LogFault.TheVariants as log
-use Rattle.store_run.specs.Effects.{StandsOn, HoldsFirst, HoldsEither, IsProperFront, begun_at, IsFullAt, Adds, GivesAt, StoresAt, Stops}
+use Rattle.store_run.specs.Effects.{StandsOn, HoldsFirst, HoldsEither, IsProperFront, begun_at, IsFullAt, Adds, GivesAt, StoresAt, StopsStoring}
 use Rattle.store_run.specs.Stopping.{stop_of_log}
 use Rattle.store_run.specs.declared.stop.Stop.{Stop}
 use Rattle.store_run.specs.declared.stop.Stop.TheVariants.{LogFull, SourceFault, SinkFault, DiskFault, TooLong, NoMemory}
@@ -153,8 +153,8 @@ module _ {K D : Type 0} (sink : OfSink.Ghosts K) (disk : OfDisk.Ghosts D)
   stores_then NoMemory d d' d'' l l' l'' kept done begun a b = keeps_then d d' d'' l l' l'' kept done a b
 
   pub stops_then : (k k' k'' : K) (d d' d'' : D) (l l' l'' : LogState) (stop : Stop) (text done begun : List ℕ) (kept done_kept begun_kept : Payloads)
-      → Adds sink disk (k, d, l) (k', d', l') text kept → Stops sink disk (k', d', l') (k'', d'', l'') stop done begun done_kept begun_kept
-      → Stops sink disk (k, d, l) (k'', d'', l'') stop (text ++ done) begun (kept ++ done_kept) begun_kept
+      → Adds sink disk (k, d, l) (k', d', l') text kept → StopsStoring sink disk (k', d', l') (k'', d'', l'') stop done begun done_kept begun_kept
+      → StopsStoring sink disk (k, d, l) (k'', d'', l'') stop (text ++ done) begun (kept ++ done_kept) begun_kept
   stops_then k k' k'' d d' d'' l l' l'' stop text done begun kept done_kept begun_kept a b = record {
     given = gives_then stop k k' k'' text done begun a.given b.given;
     stored = stores_then stop d d' d'' l l' l'' kept done_kept begun_kept a.stored b.stored;
@@ -198,7 +198,7 @@ module _ {K D : Type 0} (sink : OfSink.Ghosts K) (disk : OfDisk.Ghosts D)
       → ((base : Payloads) → StandsOn disk d l base → LeavesOnly disk d d' (AppendLeaves base payload (Err fault)))
       → (fault ≡ log.LogFull → 2 ^ 63 - 1 < l.gate + 10 + length payload) → (fault ≡ log.DiskFault → IfSome (disk.room d) (λ most. most < l.gate + 10 + length payload))
       → Steps (KeepsBehind (l.gate + 10 + length payload)) (disk.content d) (disk.content d')
-      → Stops sink disk (k, d, l) (k, d', l') (stop_of_log fault) [] line [] (payload ∷ [])
+      → StopsStoring sink disk (k, d, l) (k, d', l') (stop_of_log fault) [] line [] (payload ∷ [])
   append_stops k d d' l l' payload line log.LogFull some ends read moments over sure behind = record {
     full = let is : 2 ^ 63 - 1 < l.gate + 0 + 10 + length payload = omega (arith, over refl) in is;
     given = Appends-nil (sink.held k);
@@ -231,7 +231,7 @@ module _ {K D : Type 0} (sink : OfSink.Ghosts K) (disk : OfDisk.Ghosts D)
 
   -- at the line of a refused item
   pub line_stops : (k k' : K) (d : D) (l : LogState) (line : List ℕ) → GaveFront sink k k' line
-      → Stops sink disk (k, d, l) (k', d, l) SinkFault [] line [] []
+      → StopsStoring sink disk (k, d, l) (k', d, l) SinkFault [] line [] []
   line_stops k k' d l line h = record {
     full = tt;
     given = proper_front (sink.held k) (sink.held k') line h;
@@ -242,7 +242,7 @@ module _ {K D : Type 0} (sink : OfSink.Ghosts K) (disk : OfDisk.Ghosts D)
 
   -- at the line of a change that was stored
   pub stored_line_stops : (k k' : K) (d d' : D) (l l' : LogState) (line : List ℕ) (kept : Payloads) → Adds sink disk (k, d, l) (k, d', l') [] kept
-      → GaveFront sink k k' line → Stops sink disk (k, d, l) (k', d', l') SinkFault [] line [] kept
+      → GaveFront sink k k' line → StopsStoring sink disk (k, d, l) (k', d', l') SinkFault [] line [] kept
   stored_line_stops k k' d d' l l' line kept a h = record {
     given = proper_front (sink.held k) (sink.held k') line h;
     stored = a.stored;
@@ -259,10 +259,10 @@ module _ {K D : Type 0} (sink : OfSink.Ghosts K) (disk : OfDisk.Ghosts D)
 
   pub line_stopped : (r : Result (Unit {0}) Stop) (k k' : K) (d d' : D) (l l' : LogState) (line : List ℕ) (kept : Payloads) → Adds sink disk (k, d, l) (k, d', l') [] kept
       → IfErr r (λ stop. (stop ≡ SinkFault) × GaveFront sink k k' line)
-      → IfErr r (λ stop. Stops sink disk (k, d, l) (k', d', l') stop [] line [] kept)
+      → IfErr r (λ stop. StopsStoring sink disk (k, d, l) (k', d', l') stop [] line [] kept)
   line_stopped (Ok u) k k' d d' l l' line kept a h = tt
   line_stopped (Err stop) k k' d d' l l' line kept a h =
-      subst (λ (s : Stop). Stops sink disk (k, d, l) (k', d', l') s [] line [] kept) (sym h.0) (stored_line_stops k k' d d' l l' line kept a h.1)
+      subst (λ (s : Stop). StopsStoring sink disk (k, d, l) (k', d', l') s [] line [] kept) (sym h.0) (stored_line_stops k k' d d' l l' line kept a h.1)
 
   -- the line of a refused item
   pub line_answered : (r : Result (Unit {0}) Stop) (k k' : K) (d : D) (l : LogState) (line : List ℕ) (payload : Option (List ℕ)) → payload ≡ None
@@ -274,11 +274,11 @@ module _ {K D : Type 0} (sink : OfSink.Ghosts K) (disk : OfDisk.Ghosts D)
   -- the sink at the line of a refused item
   pub line_refused : (r : Result (Unit {0}) Stop) (k k' : K) (d : D) (l : LogState) (line : List ℕ) (payload : Option (List ℕ)) → payload ≡ None
       → IfErr r (λ stop. (stop ≡ SinkFault) × GaveFront sink k k' line)
-      → IfErr r (λ stop. Stops sink disk (k, d, l) (k', d, l) stop [] line [] (option_to_list payload))
+      → IfErr r (λ stop. StopsStoring sink disk (k, d, l) (k', d, l) stop [] line [] (option_to_list payload))
   line_refused (Ok u) k k' d l line payload e h = tt
   line_refused (Err stop) k k' d l line payload e h =
-      subst (λ (o : Option (List ℕ)). Stops sink disk (k, d, l) (k', d, l) stop [] line [] (option_to_list o)) (sym e)
-      (subst (λ (s : Stop). Stops sink disk (k, d, l) (k', d, l) s [] line [] []) (sym h.0) (line_stops k k' d l line h.1))
+      subst (λ (o : Option (List ℕ)). StopsStoring sink disk (k, d, l) (k', d, l) stop [] line [] (option_to_list o)) (sym e)
+      (subst (λ (s : Stop). StopsStoring sink disk (k, d, l) (k', d, l) s [] line [] []) (sym h.0) (line_stops k k' d l line h.1))
 
   -- ---- a snapshot behind the version record
 
@@ -287,6 +287,6 @@ module _ {K D : Type 0} (sink : OfSink.Ghosts K) (disk : OfDisk.Ghosts D)
   packs k k' d d1 d' l l1 l' version line kept a b = adds_then k k k' d d1 d' l l1 l' [] line version kept a b
 
   pub packs_short : (k k' : K) (d d1 d' : D) (l l1 l' : LogState) (version : Payloads) (stop : Stop) (line : List ℕ) (kept : Payloads) → Adds sink disk (k, d, l) (k, d1, l1) [] version
-      → Stops sink disk (k, d1, l1) (k', d', l') stop [] line [] kept → Stops sink disk (k, d, l) (k', d', l') stop [] line version kept
+      → StopsStoring sink disk (k, d1, l1) (k', d', l') stop [] line [] kept → StopsStoring sink disk (k, d, l) (k', d', l') stop [] line version kept
   packs_short k k' d d1 d' l l1 l' version stop line kept a b =
-      subst (λ (x : Payloads). Stops sink disk (k, d, l) (k', d', l') stop [] line x kept) (append-nil version) (stops_then k k k' d d1 d' l l1 l' stop [] [] line version [] kept a b)
+      subst (λ (x : Payloads). StopsStoring sink disk (k, d, l) (k', d', l') stop [] line x kept) (append-nil version) (stops_then k k k' d d1 d' l l1 l' stop [] [] line version [] kept a b)

@@ -14,7 +14,7 @@ use Rattle.edit_journal.specs.declared.line.Line.{Line}
 use Rattle.edit_journal.proofs.Feeding.{lines_at, joins, in_front, all_lines_given}
 use Rattle.script_input.specs.Taking.{GaveFew}
 use Rattle.script_input.specs.Coming.{ended_lines}
-use Rattle.store_run.specs.StoreRuns.{run, GoesOver, AreAnsweredIn, text_of}
+use Rattle.store_run.specs.StoreRuns.{run_in_store, StoreGoesOver, AreAnsweredIn, text_of}
 use Rattle.store_run.specs.declared.session.StoredAnswer.{StoredAnswer}
 use Rattle.store_run.specs.declared.session.StoredSession as OfSession
 use Rattle.store_run.proofs.RunParts.{text_append, goes_run}
@@ -54,13 +54,13 @@ module _ {A : Type 0} (session : OfSession.Ghosts A) where
   record RunsFirst (t : session.State) (n : ℕ) (xs : List Line) (steps : List (session.State × StoredAnswer)) : Type 0 where
     front : List (session.State × StoredAnswer)
     rest : List (session.State × StoredAnswer)
-    is_run : run session t n xs ≡ Some front
+    is_run : run_in_store session t n xs ≡ Some front
     parts : steps ≡ front ++ rest
 
   -- one step more in front
   behind_step : (t : session.State) (n : ℕ) (x : Line) (xs ys : List Line) (steps : List (session.State × StoredAnswer)) (s : session.State × StoredAnswer) (r : Option (List (session.State × StoredAnswer))) → is_blank x ≡ false
-      → session.answer t (n + 1) x ≡ Some s → run session s.0 (n + 1) (xs ++ ys) ≡ r
-      → ((later : List (session.State × StoredAnswer)) → run session s.0 (n + 1) (xs ++ ys) ≡ Some later → RunsFirst s.0 (n + 1) xs later)
+      → session.answer t (n + 1) x ≡ Some s → run_in_store session s.0 (n + 1) (xs ++ ys) ≡ r
+      → ((later : List (session.State × StoredAnswer)) → run_in_store session s.0 (n + 1) (xs ++ ys) ≡ Some later → RunsFirst s.0 (n + 1) xs later)
       → option_map (λ (steps : List (session.State × StoredAnswer)). s ∷ steps) r ≡ Some steps → RunsFirst t n (x ∷ xs) steps
   behind_step t n x xs ys steps s None full a is more e = cc
   behind_step t n x xs ys steps s (Some later) full a is more e =
@@ -69,36 +69,36 @@ module _ {A : Type 0} (session : OfSession.Ghosts A) where
         front = s ∷ f.front;
         rest = f.rest;
         is_run =
-            ap (λ b. cond b (run session t n xs) (option_and_then (λ s. option_map (λ steps. s ∷ steps) (run session s.0 (n + 1) xs)) (session.answer t (n + 1) x))) full
-            ∙ ap (option_and_then (λ (s : session.State × StoredAnswer). option_map (λ (steps : List (session.State × StoredAnswer)). s ∷ steps) (run session s.0 (n + 1) xs))) a
+            ap (λ b. cond b (run_in_store session t n xs) (option_and_then (λ s. option_map (λ steps. s ∷ steps) (run_in_store session s.0 (n + 1) xs)) (session.answer t (n + 1) x))) full
+            ∙ ap (option_and_then (λ (s : session.State × StoredAnswer). option_map (λ (steps : List (session.State × StoredAnswer)). s ∷ steps) (run_in_store session s.0 (n + 1) xs))) a
             ∙ ap (option_map (λ (steps : List (session.State × StoredAnswer)). s ∷ steps)) f.is_run;
         parts = sym (same_Some (s ∷ later) steps e) ∙ ap (λ (l : List (session.State × StoredAnswer)). s ∷ l) f.parts;
       }
 
   -- a line that is not blank
   at_item : (t : session.State) (n : ℕ) (x : Line) (xs ys : List Line) (steps : List (session.State × StoredAnswer)) (o : Option (session.State × StoredAnswer)) → is_blank x ≡ false → session.answer t (n + 1) x ≡ o
-      → ((s : session.State × StoredAnswer) (later : List (session.State × StoredAnswer)) → run session s.0 (n + 1) (xs ++ ys) ≡ Some later → RunsFirst s.0 (n + 1) xs later)
-      → option_and_then (λ (s : session.State × StoredAnswer). option_map (λ (steps : List (session.State × StoredAnswer)). s ∷ steps) (run session s.0 (n + 1) (xs ++ ys))) o ≡ Some steps
+      → ((s : session.State × StoredAnswer) (later : List (session.State × StoredAnswer)) → run_in_store session s.0 (n + 1) (xs ++ ys) ≡ Some later → RunsFirst s.0 (n + 1) xs later)
+      → option_and_then (λ (s : session.State × StoredAnswer). option_map (λ (steps : List (session.State × StoredAnswer)). s ∷ steps) (run_in_store session s.0 (n + 1) (xs ++ ys))) o ≡ Some steps
       → RunsFirst t n (x ∷ xs) steps
   at_item t n x xs ys steps None full a more e = cc
-  at_item t n x xs ys steps (Some s) full a more e = behind_step t n x xs ys steps s (run session s.0 (n + 1) (xs ++ ys)) full a refl (more s) e
+  at_item t n x xs ys steps (Some s) full a more e = behind_step t n x xs ys steps s (run_in_store session s.0 (n + 1) (xs ++ ys)) full a refl (more s) e
 
   at_line : (t : session.State) (n : ℕ) (x : Line) (xs ys : List Line) (steps : List (session.State × StoredAnswer)) (b : Bool) → is_blank x ≡ b
-      → ((later : List (session.State × StoredAnswer)) → run session t n (xs ++ ys) ≡ Some later → RunsFirst t n xs later)
-      → ((s : session.State × StoredAnswer) (later : List (session.State × StoredAnswer)) → run session s.0 (n + 1) (xs ++ ys) ≡ Some later → RunsFirst s.0 (n + 1) xs later)
-      → cond b (run session t n (xs ++ ys)) (option_and_then (λ (s : session.State × StoredAnswer). option_map (λ (steps : List (session.State × StoredAnswer)). s ∷ steps) (run session s.0 (n + 1) (xs ++ ys))) (session.answer t (n + 1) x)) ≡ Some steps
+      → ((later : List (session.State × StoredAnswer)) → run_in_store session t n (xs ++ ys) ≡ Some later → RunsFirst t n xs later)
+      → ((s : session.State × StoredAnswer) (later : List (session.State × StoredAnswer)) → run_in_store session s.0 (n + 1) (xs ++ ys) ≡ Some later → RunsFirst s.0 (n + 1) xs later)
+      → cond b (run_in_store session t n (xs ++ ys)) (option_and_then (λ (s : session.State × StoredAnswer). option_map (λ (steps : List (session.State × StoredAnswer)). s ∷ steps) (run_in_store session s.0 (n + 1) (xs ++ ys))) (session.answer t (n + 1) x)) ≡ Some steps
       → RunsFirst t n (x ∷ xs) steps
   at_line t n x xs ys steps true blank same more e =
       let f = same steps e in
       record {
         front = f.front;
         rest = f.rest;
-        is_run = ap (λ b. cond b (run session t n xs) (option_and_then (λ s. option_map (λ steps. s ∷ steps) (run session s.0 (n + 1) xs)) (session.answer t (n + 1) x))) blank ∙ f.is_run;
+        is_run = ap (λ b. cond b (run_in_store session t n xs) (option_and_then (λ s. option_map (λ steps. s ∷ steps) (run_in_store session s.0 (n + 1) xs)) (session.answer t (n + 1) x))) blank ∙ f.is_run;
         parts = f.parts;
       }
   at_line t n x xs ys steps false full same more e = at_item t n x xs ys steps (session.answer t (n + 1) x) full refl more e
 
-  runs_first : (t : session.State) (n : ℕ) (xs ys : List Line) (steps : List (session.State × StoredAnswer)) → run session t n (xs ++ ys) ≡ Some steps → RunsFirst t n xs steps
+  runs_first : (t : session.State) (n : ℕ) (xs ys : List Line) (steps : List (session.State × StoredAnswer)) → run_in_store session t n (xs ++ ys) ≡ Some steps → RunsFirst t n xs steps
   runs_first t n [] ys steps e = record { front = []; rest = steps; is_run = refl; parts = refl }
   runs_first t n (x ∷ xs) ys steps e = at_line t n x xs ys steps (is_blank x) refl (λ later h. runs_first t n xs ys later h) (λ s later h. runs_first s.0 (n + 1) xs ys later h) e
 
@@ -119,7 +119,7 @@ module _ {A : Type 0} (session : OfSession.Ghosts A) where
     answered_longer lines text more a = record { steps = a.steps; is_run = a.is_run; written = starts_longer text more (text_of a.steps) a.written }
 
     -- these steps answer the lines, and no more
-    pub answered_by : (t' : session.State) (n' : ℕ) (lines : List Line) (steps : List (session.State × StoredAnswer)) → GoesOver session t n lines steps t' n' → AreAnsweredIn session t n lines (text_of steps)
+    pub answered_by : (t' : session.State) (n' : ℕ) (lines : List Line) (steps : List (session.State × StoredAnswer)) → StoreGoesOver session t n lines steps t' n' → AreAnsweredIn session t n lines (text_of steps)
     answered_by t' n' lines steps goes = record { steps = steps; is_run = goes_run session t t' n n' lines steps goes; written = take-length (text_of steps) }
 
     -- all lines that have ended are answered, so those that had ended before are

@@ -13,14 +13,14 @@ use Rattle.gate_log.specs.LogOnDisk.{LogState}
 use Rattle.script_input.specs.Taking.{GaveFew}
 use Rattle.script_input.specs.declared.limits.TheConstants.{PIECE_BYTES}
 use Rattle.store_run.specs.Devices.{devices_of}
-use Rattle.store_run.specs.Answered.{AllAt, AnswersFirst}
+use Rattle.store_run.specs.Answered.{AllAt, AnswersEndedLines}
 use Rattle.script_input.specs.Coming.{ended_lines}
 use Rattle.store_run.specs.ApplyCall.{EndsCall}
 use Rattle.store_run.specs.Effects.{GivesAt}
-use Rattle.store_run.specs.ApplyEnds.{log_full_line, said_at, status_of, SaysStop, Exits}
-use Rattle.store_run.specs.InTime.{EndsAtSource, AnswersInTime}
+use Rattle.store_run.specs.ApplyEnds.{log_full_line, said_at, status_of, SaysStop, ExitsApply}
+use Rattle.store_run.specs.InTime.{EndsAtSource, StoreAnswersInTime}
 use Rattle.store_run.specs.JournalEnds.{StopsJournal}
-use Rattle.store_run.specs.StoreRuns.{run, AreAnsweredIn, text_of}
+use Rattle.store_run.specs.StoreRuns.{run_in_store, AreAnsweredIn, text_of}
 use Rattle.store_run.specs.declared.session.StoredAnswer.{StoredAnswer}
 use Rattle.store_run.specs.declared.session.StoredSession as OfSession
 use Rattle.command_ends.specs.declared.status.Status.{Status}
@@ -73,8 +73,8 @@ module _ {K : Type 0} (sink : OfSink.Ghosts K) where
 module _ {S K D A : Type 0} (source : OfSource.Ghosts S) (sink : OfSink.Ghosts K) (disk : OfDisk.Ghosts D) (session : OfSession.Ghosts A) where
   -- the journal was read to its end, its lines were answered, and this was written behind
   module _ (i i' : S) (k k' : K) (t : session.State) (status : Status) (few : GaveFew source i i' PIECE_BYTES) where
-    read_in_time : (bytes : List ℕ) (steps : List (session.State × StoredAnswer)) (more : List ℕ) → Took source i i' bytes → run session t 0 (lines_of bytes) ≡ Some steps → Gave sink k k' (text_of steps ++ more)
-        → AnswersInTime source sink session (i, k) (i', k') t status
+    read_in_time : (bytes : List ℕ) (steps : List (session.State × StoredAnswer)) (more : List ℕ) → Took source i i' bytes → run_in_store session t 0 (lines_of bytes) ≡ Some steps → Gave sink k k' (text_of steps ++ more)
+        → StoreAnswersInTime source sink session (i, k) (i', k') t status
     read_in_time bytes steps more took is_run gave =
         let given = text_of steps ++ more in
         let all_answered = answered_ended session t 0 bytes given (record { steps = steps; is_run = is_run; written = take-append_seam (text_of steps) more }) in
@@ -89,7 +89,7 @@ module _ {S K D A : Type 0} (source : OfSource.Ghosts S) (sink : OfSink.Ghosts K
         }
 
     -- nothing was taken
-    unasked_in_time : (given : List ℕ) → IsUnasked source i i' → Gave sink k k' given → AnswersInTime source sink session (i, k) (i', k') t status
+    unasked_in_time : (given : List ℕ) → IsUnasked source i i' → Gave sink k k' given → StoreAnswersInTime source sink session (i, k) (i', k') t status
     unasked_in_time given unasked gave = record {
       bytes = [];
       took = took_none source i i' unasked;
@@ -100,13 +100,13 @@ module _ {S K D A : Type 0} (source : OfSource.Ghosts S) (sink : OfSink.Ghosts K
       all = λ _. record { steps = []; is_run = refl; written = refl };
     }
 
-    first_longer : (bytes text more : List ℕ) → AnswersFirst source session i i' t 0 bytes text → AnswersFirst source session i i' t 0 bytes (text ++ more)
+    first_longer : (bytes text more : List ℕ) → AnswersEndedLines source session i i' t 0 bytes text → AnswersEndedLines source session i i' t 0 bytes (text ++ more)
     first_longer bytes text more (inl unasked) = inl unasked
     first_longer bytes text more (inr h) = inr (answered_longer session t 0 _ text more h)
 
     -- the answering stopped, and this was written behind
     stopped_in_time : (k1 : K) (d d' : D) (l l' : LogState) (stop : Stop) → StopsJournal source sink disk session (i, k, d, l) (i', k1, d', l') t 0 stop → SaysStop sink k1 k' stop status
-        → AnswersInTime source sink session (i, k) (i', k') t status
+        → StoreAnswersInTime source sink session (i, k) (i', k') t status
     stopped_in_time k1 d d' l l' stop (inl j) says =
         let done = text_of j.among.done in
         let front = gives_some sink stop k k1 done (text_of j.among.begun) j.among.stops.given in
@@ -137,8 +137,8 @@ module _ {S K D A : Type 0} (source : OfSource.Ghosts S) (sink : OfSink.Ghosts K
           all = λ _. all_answered;
         }
 
-  pub exits_in_time : (i i' : S) (k k' : K) (d d' : D) (l l' : LogState) (version : List (List ℕ)) (t t' : session.State) (status : Status) → GaveFew source i i' PIECE_BYTES → Exits source sink disk session (i, k, d, l) (i', k', d', l') version t t' status
-      → AnswersInTime source sink session (i, k) (i', k') t status
+  pub exits_in_time : (i i' : S) (k k' : K) (d d' : D) (l l' : LogState) (version : List (List ℕ)) (t t' : session.State) (status : Status) → GaveFew source i i' PIECE_BYTES → ExitsApply source sink disk session (i, k, d, l) (i', k', d', l') version t t' status
+      → StoreAnswersInTime source sink session (i, k) (i', k') t status
   exits_in_time i i' k k' d d' l l' version t t' status few (inl c) = read_in_time i i' k k' t status few c.bytes c.steps (session.state_text t') c.consumes c.is_run c.given
   exits_in_time i i' k k' d d' l l' version t t' status few (inr (inl e)) =
       let j = e.ends.goes_on in
@@ -157,6 +157,6 @@ module _ {S K D A : Type 0} (source : OfSource.Ghosts S) (sink : OfSink.Ghosts K
 
   -- the call from the opening on
   pub call_in_time : (i i' : S) (k k' : K) (d d' : D) (before : List (List ℕ)) (t : session.State) (version : Option (List ℕ)) (status : Status) → GaveFew source i i' PIECE_BYTES
-      → EndsCall source sink disk session (devices_of i k d) (devices_of i' k' d') before t version status → AnswersInTime source sink session (i, k) (i', k') t status
+      → EndsCall source sink disk session (devices_of i k d) (devices_of i' k' d') before t version status → StoreAnswersInTime source sink session (i, k) (i', k') t status
   call_in_time i i' k k' d d' before t version status few (inl o) = exits_in_time i i' k k' o.d1 d' o.log o.log' (option_to_list version) t o.t' status few o.exits
   call_in_time i i' k k' d d' before t version status few (inr u) = unasked_in_time i i' k k' t status few [] u.1 u.2.0.1

@@ -5,7 +5,7 @@ use Rattle.lens_io.specs.DiskRuns.{LeavesOnly}
 use Rattle.lens_io.specs.declared.disk.Disk as OfDisk
 use Rattle.lens_io.specs.declared.sink.Sink as OfSink
 use Rattle.gate_log.specs.LogOnDisk.{LogState, HoldsPayloads}
-use Rattle.store_run.specs.Effects.{HoldsFirst, StandsOn, Stops}
+use Rattle.store_run.specs.Effects.{HoldsFirst, StandsOn, StopsStoring}
 use Rattle.store_run.specs.Refusals.{IsOpening}
 use Rattle.store_run.specs.StoreEnds.{StoreEnds}
 use Rattle.command_ends.specs.declared.status.Status.{Status}
@@ -15,7 +15,7 @@ use Rattle.store_run.proofs.Effects.{first_all}
 use Rattle.store_run.proofs.Moments.{leaves_more, leaves_then}
 use Rattle.store_run.proofs.Openings.{opening_then}
 use Rattle.store_run.proofs.PackCalls.{never_finished, now_at, moments_at}
-use Rattle.store_run.specs.MoreCall.{IsImage, StoresOne, Exits, MoreEnds, IsSafeMore}
+use Rattle.store_run.specs.MoreCall.{IsImage, StoresOne, ExitsMore, MoreEnds, IsSafeMore}
 
 -- ---- images
 
@@ -47,7 +47,7 @@ module _ {K D : Type 0} (sink : OfSink.Ghosts K) (disk : OfDisk.Ghosts D)
   stores_one status is (inl e) = stored_done e.d1 e.log e.log' status is e.stands e.ends
   stores_one status is (inr e) = elim e.fails.0.0 [ inl f ↦ cc | inr f ↦ cc ]
 
-  pub exits_of : (status : Status) → MoreEnds sink disk (k, d) (k', d') before payload lines status → Exits sink disk (k, d) (k', d') before payload lines status
+  pub exits_of : (status : Status) → MoreEnds sink disk (k, d) (k', d') before payload lines status → ExitsMore sink disk (k, d) (k', d') before payload lines status
   exits_of status (inl e) = inl e
   exits_of status (inr e) = inr (e.opens.unwritten, e.fails)
 
@@ -62,8 +62,8 @@ module _ {K D : Type 0} (sink : OfSink.Ghosts K) (disk : OfDisk.Ghosts D)
   }
 
   stopped_safe : (d1 : D) (l l' : LogState) (k1 : K) (stop : Stop) → LeavesOnly disk d d1 (disk.images d) → StandsOn disk d1 l before
-      → Stops sink disk (k, d1, l) (k1, d', l') stop [] [] [] []
-      ⊎ Stops sink disk (k, d1, l) (k1, d', l') stop [] lines [] records
+      → StopsStoring sink disk (k, d1, l) (k1, d', l') stop [] [] [] []
+      ⊎ StopsStoring sink disk (k, d1, l) (k1, d', l') stop [] lines [] records
       → IsSafeMore disk d d' before payload
   stopped_safe d1 l l' k1 stop reached st (inl s) =
       safe_of d1 reached

@@ -10,7 +10,7 @@ use Rattle.gate_log.specs.CallEnds.{IsLogRefusal, IsPayloadsFault, NoBadRecord}
 use Rattle.gate_log.specs.LogBytes.{not_a_log, bad_record, log_of}
 use Rattle.gate_log.specs.declared.fault.LogFault.{LogFault}
 use Rattle.gate_log.specs.declared.fault.LogFault.TheVariants as log
-use Rattle.store_run.specs.Refusals.{Refuses, IsUnwritten, IsOpening, FailsEarly, FailsUnopened, EndsRefused, refusal_of_payloads, refusal_of_log, refusal_in}
+use Rattle.store_run.specs.Refusals.{WritesRefusal, IsUnwritten, IsOpening, FailsEarly, FailsUnopened, EndsRefused, refusal_of_payloads, refusal_of_log, refusal_in}
 use Rattle.store_run.specs.Reopening.{IsReopenFault}
 use Rattle.store_run.specs.declared.refusals.StoreRefusal.{StoreRefusal}
 use Rattle.store_run.specs.declared.refusals.StoreRefusal.TheVariants.{NotALog, BadRecord, NotConsistent}

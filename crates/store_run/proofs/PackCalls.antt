@@ -9,7 +9,7 @@ use Rattle.lens_io.specs.declared.disk.Disk as OfDisk
 use Rattle.gate_log.specs.LogOnDisk.{LogState, HoldsPayloads}
 use Rattle.store_run.specs.Refusals.{IsOpening}
 use Rattle.store_run.specs.CountLines.{packed_line}
-use Rattle.store_run.specs.Effects.{HoldsFirst, StandsOn, begun_at, Adds, Stops}
+use Rattle.store_run.specs.Effects.{HoldsFirst, StandsOn, begun_at, Adds, StopsStoring}
 use Rattle.store_run.specs.PackCall.{PacksCall, IsSafePack, EndsPacked}
 use Rattle.store_run.specs.ApplyEnds.{status_of}
 use Rattle.command_ends.specs.declared.status.Status.{Status}
@@ -49,7 +49,7 @@ module _ {K D : Type 0} (sink : OfSink.Ghosts K) (disk : OfDisk.Ghosts D)
     (images_hold : (l : LogState) (d : D) (base : Payloads) (c : List ℕ) → StandsOn disk d l base → disk.images d c → HoldsPayloads base c) where
   -- what each image holds after a stop
   pub now_at : (stop : Stop) (k k' : K) (d d' : D) (l l' : LogState) (base whole : Payloads) (text begun_text : List ℕ) (kept begun more : Payloads) → (kept ++ begun) ++ more ≡ whole
-      → Stops sink disk (k, d, l) (k', d', l') stop text begun_text kept begun → StandsOn disk d l base → (c : List ℕ) → disk.images d' c → HoldsFirst base whole c
+      → StopsStoring sink disk (k, d, l) (k', d', l') stop text begun_text kept begun → StandsOn disk d l base → (c : List ℕ) → disk.images d' c → HoldsFirst base whole c
   now_at SinkFault k k' d d' l l' base whole text begun_text kept begun more e s st c now = front_holds base (kept ++ begun) more whole c e (images_hold l' d' (base ++ (kept ++ begun)) c (s.stored base st) now)
   now_at DiskFault k k' d d' l l' base whole text begun_text kept begun more e s st c now = elim ((s.stored base st).0 c now) [
     | inl without ↦ front_holds base kept (begun ++ more) whole c (sym (append_assoc kept begun more) ∙ e) without
@@ -69,7 +69,7 @@ module _ {K D : Type 0} (sink : OfSink.Ghosts K) (disk : OfDisk.Ghosts D)
   begun_parts NoMemory kept begun more = (begun ++ more, ap (λ (x : Payloads). x ++ (begun ++ more)) (append-nil kept) ∙ sym (append_assoc kept begun more))
 
   pub moments_at : (stop : Stop) (k k' : K) (d d' : D) (l l' : LogState) (base whole : Payloads) (text begun_text : List ℕ) (kept begun more : Payloads) → (kept ++ begun) ++ more ≡ whole
-      → Stops sink disk (k, d, l) (k', d', l') stop text begun_text kept begun → StandsOn disk d l base → LeavesOnly disk d d' (HoldsFirst base whole)
+      → StopsStoring sink disk (k, d, l) (k', d', l') stop text begun_text kept begun → StandsOn disk d l base → LeavesOnly disk d d' (HoldsFirst base whole)
   moments_at stop k k' d d' l l' base whole text begun_text kept begun more e s st =
       let parts = begun_parts stop kept begun more in
       leaves_more disk d d' (HoldsFirst base (kept ++ begun_at stop begun)) (HoldsFirst base whole) (λ c h. first_of base (kept ++ begun_at stop begun) parts.0 whole c (parts.1 ∙ e) h) (s.moments base st)
@@ -129,7 +129,7 @@ module _ {K D : Type 0} (sink : OfSink.Ghosts K) (disk : OfDisk.Ghosts D)
             (leaves_more disk d d' (HoldsFirst before whole) (λ c. past c ⊎ HoldsFirst before whole c) (λ c x. inr x) (a.moments before st))
 
         pub safe_short : (past : List ℕ → Type 0) (k k' : K) (l l' : LogState) (stop : Stop) (line : List ℕ)
-            → Stops sink disk (k, d, l) (k', d', l') stop [] [] [] (option_to_list version) ⊎ Stops sink disk (k, d, l) (k', d', l') stop [] line (option_to_list version) (s ∷ [])
+            → StopsStoring sink disk (k, d, l) (k', d', l') stop [] [] [] (option_to_list version) ⊎ StopsStoring sink disk (k, d, l) (k', d', l') stop [] line (option_to_list version) (s ∷ [])
             → StandsOn disk d l before → IsSafePack disk session d d' past before t version
         safe_short past k k' l l' stop line (inl e) st =
             safe_of past (now_at stop k k' d d' l l' before whole [] [] [] (option_to_list version) (s ∷ []) refl e st)

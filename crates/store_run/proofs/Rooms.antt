@@ -16,12 +16,12 @@ use Rattle.store_run.specs.Answered.{StopsAmong}
 use Rattle.script_input.specs.Coming.{ended_lines}
 use Rattle.store_run.specs.ApplyCall.{EndsCall}
 use Rattle.store_run.specs.CountLines.{packed_line}
-use Rattle.store_run.specs.Effects.{IsOver, IsFullAt, Stops}
-use Rattle.store_run.specs.ApplyEnds.{status_of, StopsStored, Exits}
+use Rattle.store_run.specs.Effects.{IsOver, IsFullAt, StopsStoring}
+use Rattle.store_run.specs.ApplyEnds.{status_of, StopsStored, ExitsApply}
 use Rattle.store_run.specs.JournalEnds.{StopsJournal}
 use Rattle.store_run.specs.PackCall.{EndsPack, packed}
 use Rattle.store_run.specs.Rooms.{most_bytes, HasNoRoom, TakesWithin, TakesTooMany, RunHasNoRoom, IsCauseInRoom, PackHasNoRoom, IsPackCauseInRoom}
-use Rattle.store_run.specs.StoreRuns.{any_refused, kept_of}
+use Rattle.store_run.specs.StoreRuns.{any_line_refused, kept_of}
 use Rattle.store_run.specs.StoreEnds.{StoreEnds}
 use Rattle.store_run.specs.Stopping.{IsOwnStop}
 use Rattle.store_run.specs.ViewCall.{Views}
@@ -162,9 +162,9 @@ module _ {S K D A : Type 0} (source : OfSource.Ghosts S) (sink : OfSink.Ghosts K
   at_status status other o e h = subst (λ (s : Status). IsCauseInRoom source session i i' o before t version s) (sym e) h
 
   at_exit : (k k' : K) (d d' : D) (l l' : LogState) (t' : session.State) (status : Status) → l.gate ≡ closed_gate before
-      → Exits source sink disk session (i, k, d, l) (i', k', d', l') (option_to_list version) t t' status
+      → ExitsApply source sink disk session (i, k, d, l) (i', k', d', l') (option_to_list version) t t' status
       → IsCauseInRoom source session i i' (disk.room d) before t version status
-  at_exit k k' d d' l l' t' status g (inl c) = at_status status (status_at_end (any_refused c.steps)) (disk.room d) c.ended (at_end (any_refused c.steps) (disk.room d) (record { bytes = c.bytes; consumes = c.consumes; within = c.within }))
+  at_exit k k' d d' l l' t' status g (inl c) = at_status status (status_at_end (any_line_refused c.steps)) (disk.room d) c.ended (at_end (any_line_refused c.steps) (disk.room d) (record { bytes = c.bytes; consumes = c.consumes; within = c.within }))
   at_exit k k' d d' l l' t' status g (inr (inl e)) = elim e.short [
     | inl x ↦ at_status status ending.NoMemory (disk.room d) x.0 tt
     | inr x ↦ at_status status ending.SinkFault (disk.room d) x.0 tt
@@ -204,8 +204,8 @@ module _ {S K D A : Type 0} (source : OfSource.Ghosts S) (sink : OfSink.Ghosts K
 
 module _ {K D : Type 0} (sink : OfSink.Ghosts K) (disk : OfDisk.Ghosts D) where
   over_stops : (k k1 : K) (d d' : D) (l l' : LogState) (before front : Payloads) (payload line : List ℕ) (stop : Stop) → l.gate ≡ closed_gate before
-      → Stops sink disk (k, d, l) (k1, d', l') stop [] [] [] front
-      ⊎ Stops sink disk (k, d, l) (k1, d', l') stop [] line front (payload ∷ [])
+      → StopsStoring sink disk (k, d, l) (k1, d', l') stop [] [] [] front
+      ⊎ StopsStoring sink disk (k, d, l) (k1, d', l') stop [] line front (payload ∷ [])
       → IfSome (room_at stop (disk.room d)) (λ most. HasNoRoom most before (front ++ payload ∷ []))
   over_stops k k1 d d' l l' before front payload line stop g (inl s) =
       if_known (room_at stop (disk.room d)) (λ most. IsOver most (l.gate + records_length []) front) (λ most. HasNoRoom most before (front ++ payload ∷ []))

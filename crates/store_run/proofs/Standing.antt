@@ -2,7 +2,7 @@
 use Rattle.std.proofs.Common.{◌≡◌, ◌⊎◌, inl, inr, ℕ, List, [], ◌∷◌, ◌++◌, Option, Some, None, refl, sym, ap, ap₂, subst, ◌∙◌, append_assoc, append-nil, Ok}
 use Rattle.std.specs.Prelude.{option_to_list}
 use Rattle.edit_journal.specs.declared.line.Line.{Line}
-use Rattle.store_run.specs.StoreRuns.{AreSteps, last, kept_of}
+use Rattle.store_run.specs.StoreRuns.{AreSteps, last_stored, kept_of}
 use Rattle.store_run.specs.declared.session.StoredSession as OfSession
 use Rattle.store_run.specs.declared.session.StoredAnswer.{StoredAnswer}
 
@@ -19,7 +19,7 @@ module _ {A : Type 0} (session : OfSession.Ghosts A)
     pub xs : List (session.State × StoredAnswer)
     pub ys : List (session.State × StoredAnswer)
     pub parts : steps ≡ xs ++ ys
-    pub stands : session.stands_for (before ++ front) ≡ Ok (last t xs, None)
+    pub stands : session.stands_for (before ++ front) ≡ Ok (last_stored t xs, None)
     pub kept : front ≡ kept_of xs
 
   -- one more step in front, which kept this payload or none
@@ -62,8 +62,8 @@ module _ {A : Type 0} (session : OfSession.Ghosts A)
       front_step before t s steps p front rest h chain.0 s.1.payload refl e (λ before' front' rest' h' e'. front_stands before' s.0 steps front' rest' h' chain.1 e')
 
   all_step : (before : Payloads) (t : session.State) (s : session.State × StoredAnswer) (steps : List (session.State × StoredAnswer)) → session.stands_for before ≡ Ok (t, None) → (n : ℕ) × (line : Line) × (session.answer t n line ≡ Some s) × session.is_step t n line s
-      → (o : Option (List ℕ)) → s.1.payload ≡ o → ((before' : Payloads) → session.stands_for before' ≡ Ok (s.0, None) → session.stands_for (before' ++ kept_of steps) ≡ Ok (last s.0 steps, None))
-      → session.stands_for (before ++ (option_to_list o ++ kept_of steps)) ≡ Ok (last s.0 steps, None)
+      → (o : Option (List ℕ)) → s.1.payload ≡ o → ((before' : Payloads) → session.stands_for before' ≡ Ok (s.0, None) → session.stands_for (before' ++ kept_of steps) ≡ Ok (last_stored s.0 steps, None))
+      → session.stands_for (before ++ (option_to_list o ++ kept_of steps)) ≡ Ok (last_stored s.0 steps, None)
   all_step before t s steps h step None is more =
       let stays : s.0 ≡ t = refused_stays t s.0 step.0 step.1 s.1 step.2 is in
       more before (subst (λ (u : session.State). session.stands_for before ≡ Ok (u, None)) (sym stays) h)
@@ -71,21 +71,21 @@ module _ {A : Type 0} (session : OfSession.Ghosts A)
       ap session.stands_for (sym (append_assoc before (q ∷ []) (kept_of steps))) ∙ more (before ++ q ∷ []) (change_stands before t s.0 step.0 step.1 s.1 q h step.2 step.3 is)
 
   -- all payloads that are kept stand for the last triple
-  pub all_stand : (before : Payloads) (t : session.State) (steps : List (session.State × StoredAnswer)) → session.stands_for before ≡ Ok (t, None) → AreSteps session t steps → session.stands_for (before ++ kept_of steps) ≡ Ok (last t steps, None)
+  pub all_stand : (before : Payloads) (t : session.State) (steps : List (session.State × StoredAnswer)) → session.stands_for before ≡ Ok (t, None) → AreSteps session t steps → session.stands_for (before ++ kept_of steps) ≡ Ok (last_stored t steps, None)
   all_stand before t [] h chain = ap session.stands_for (append-nil before) ∙ h
   all_stand before t (s ∷ steps) h chain = all_step before t s steps h chain.0 s.1.payload refl (λ before' h'. all_stand before' s.0 steps h' chain.1)
 
   -- ---- with the version record
 
   pub whole_stands : (before : Payloads) (t : session.State) (version : Option (List ℕ)) (steps : List (session.State × StoredAnswer)) → session.stands_for before ≡ Ok (t, version) → AreSteps session t steps
-      → session.stands_for ((before ++ option_to_list version) ++ kept_of steps) ≡ Ok (last t steps, None)
+      → session.stands_for ((before ++ option_to_list version) ++ kept_of steps) ≡ Ok (last_stored t steps, None)
   whole_stands before t None steps h chain = ap (λ (b : Payloads). session.stands_for (b ++ kept_of steps)) (append-nil before) ∙ all_stand before t steps h chain
   whole_stands before t (Some v) steps h chain = all_stand (before ++ v ∷ []) t steps (version_stands before t v h) chain
 
   -- the payloads stand for the triple behind the steps that kept `front`, with the version record in front of it or still to be stored
   abbrev pub StandsFor : Payloads → session.State → Option (List ℕ) → List (session.State × StoredAnswer) → Payloads → Type 0
   StandsFor before t version steps front = (xs : List (session.State × StoredAnswer)) × (ys : List (session.State × StoredAnswer)) × (v : Option (List ℕ))
-      × (steps ≡ xs ++ ys) × (session.stands_for (before ++ front) ≡ Ok (last t xs, v))
+      × (steps ≡ xs ++ ys) × (session.stands_for (before ++ front) ≡ Ok (last_stored t xs, v))
       × (front ++ option_to_list v ≡ option_to_list version ++ kept_of xs) × ((front ≡ []) ⊎ (v ≡ None))
 
   pub each_stands : (before : Payloads) (t : session.State) (version : Option (List ℕ)) (steps : List (session.State × StoredAnswer)) (front rest : Payloads) → session.stands_for before ≡ Ok (t, version) → AreSteps session t steps

@@ -15,7 +15,7 @@ use Rattle.gate_log.specs.declared.fault.LogFault.{LogFault}
 use Rattle.gate_log.specs.declared.fault.LogFault.TheVariants as log
 use Rattle.store_run.specs.Effects.{StandsOn}
 use Rattle.store_run.specs.Opening.{EndsUnopened, FailsToOpen, IsOpened, IsReadLog, IsRefusedFor, IsUnreadFor, fault_of_log, fault_of_payloads}
-use Rattle.store_run.specs.Refusals.{EndsRefused, FailsUnopened, Refuses, refusal_in, refusal_of_log, refusal_of_payloads}
+use Rattle.store_run.specs.Refusals.{EndsRefused, FailsUnopened, WritesRefusal, refusal_in, refusal_of_log, refusal_of_payloads}
 use Rattle.store_run.specs.Reopening.{IsReopenFault}
 use Rattle.store_run.specs.Stores.{Store, RefusedStore}
 use Rattle.store_run.specs.declared.opening.OpenFault.{OpenFault}
@@ -75,7 +75,7 @@ module _ {K D : Type 0} (sink : OfSink.Ghosts K) (disk : OfDisk.Ghosts D) (k k' 
 
   -- over bytes that are refused
   pub ends_refused : (fault : OpenFault) (reason : StoreRefusal) → IsRefusedFor reason fault → (fault ≡ DiskFault → IsNone (disk.room d)) → EndsUnopened sink k k' fault status → EndsRefused sink disk (k, d) (k', d') reason status
-  ends_refused (Refused refusal) reason same sure ends = inl (subst (λ (x : StoreRefusal). Refuses sink k k' x status) same ends)
+  ends_refused (Refused refusal) reason same sure ends = inl (subst (λ (x : StoreRefusal). WritesRefusal sink k k' x status) same ends)
   ends_refused DiskFault reason same sure ends = inr (fails_to_open DiskFault tt sure ends)
   ends_refused NoMemory reason same sure ends = inr (fails_to_open NoMemory tt sure ends)
 

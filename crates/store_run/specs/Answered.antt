@@ -1,5 +1,5 @@
 -- What answering some lines of a journal comes to: for the source, the sink, the disk and the log, and for the
--- session. Read it from the end: `EndsPieces` and `StopsPieces`, `AnswersFirst`, then `StopsAmong` and `Answers`;
+-- session. Read it from the end: `EndsPieces` and `StopsPieces`, `AnswersEndedLines`, then `StopsAmong` and `Answers`;
 -- `ComesOn` is for the loop.
 use Rattle.std.specs.Prelude.{◌≡◌, ◌⊎◌, ℕ, ◌+◌, ◌<◌, ◌≤◌, List, [], ◌++◌, length, Bool, ◌||◌, Result, Err}
 use Rattle.lens_io.specs.Calls.{Took, IsRead, IsUnasked, before_last}
@@ -12,8 +12,9 @@ use Rattle.lens_io.specs.declared.failed.TakeFault.{TakeFault}
 use Rattle.script_input.specs.Coming.{ended_lines}
 use Rattle.script_input.specs.Taking.{TakenInput, TakesMore}
 use Rattle.script_input.specs.declared.limits.TheConstants.{MOST_BYTES}
-use Rattle.store_run.specs.Effects.{Adds, Stops}
-use Rattle.store_run.specs.StoreRuns.{GoesOver, AreSteps, AreAnswers, AreAnsweredIn, last, any_refused, text_of}
+use Rattle.store_run.specs.Effects.{Adds, StopsStoring}
+use Rattle.store_run.specs.StoreRuns.{StoreGoesOver, AreSteps, AreAnswers, AreAnsweredIn, last_stored, any_line_refused}
+use Rattle.store_run.specs.StoreRuns.{text_of}
 use Rattle.store_run.specs.StoreRuns.{kept_of}
 use Rattle.store_run.specs.Stopping.{stop_of_input, IsOwnStop}
 use Rattle.store_run.specs.declared.session.StoredAnswer.{StoredAnswer}
@@ -30,11 +31,11 @@ module _ {K D A : Type 0} (sink : OfSink.Ghosts K) (disk : OfDisk.Ghosts D) (ses
   pub record Answers (t : session.State) (p : StoreProgress) (lines : List Line) (t' : session.State)
       (p' : StoreProgress) : Type 0 where
     pub steps : List (session.State × StoredAnswer)
-    pub goes : GoesOver session t p.number lines steps t' p'.number
-    pub at_last : last t steps ≡ t'
+    pub goes : StoreGoesOver session t p.number lines steps t' p'.number
+    pub at_last : last_stored t steps ≡ t'
     pub chain : AreSteps session t steps
     pub are : AreAnswers steps
-    pub refused : p'.refused ≡ (p.refused || any_refused steps)
+    pub refused : p'.refused ≡ (p.refused || any_line_refused steps)
     pub adds : Adds sink disk old new (text_of steps) (kept_of steps)
 
   -- The answering of these lines stopped. The first ones were handled: of their steps all are done but the last one,
@@ -47,12 +48,12 @@ module _ {K D A : Type 0} (sink : OfSink.Ghosts K) (disk : OfDisk.Ghosts D) (ses
     pub begun : List (session.State × StoredAnswer)
     pub t' : session.State
     pub n' : ℕ
-    pub goes : GoesOver session t n lines (done ++ begun) t' n'
+    pub goes : StoreGoesOver session t n lines (done ++ begun) t' n'
     pub chain : AreSteps session t (done ++ begun)
     pub few : length begun ≤ 1
     pub are_done : AreAnswers done
     pub are_begun : AreAnswers begun
-    pub stops : Stops sink disk old new stop (text_of done) (text_of begun) (kept_of done) (kept_of begun)
+    pub stops : StopsStoring sink disk old new stop (text_of done) (text_of begun) (kept_of done) (kept_of begun)
 
 -- ---- a journal that comes in pieces
 
@@ -65,8 +66,8 @@ AllAt stop taken rest all_answered = Unit {0}
 module _ {S A : Type 0} (source : OfSource.Ghosts S) (session : OfSession.Ghosts A) (old new : S) where
   -- These bytes were taken. When the source was called last, all lines that had ended were answered, and their
   -- answers are the beginning of this text. Or the source was not called.
-  abbrev pub AnswersFirst : session.State → ℕ → List ℕ → List ℕ → Type 0
-  AnswersFirst t n bytes text =
+  abbrev pub AnswersEndedLines : session.State → ℕ → List ℕ → List ℕ → Type 0
+  AnswersEndedLines t n bytes text =
       IsUnasked source old new ⊎ AreAnsweredIn session t n (ended_lines (before_last source old new bytes)) text
 
 module _ {S K D A : Type 0} (source : OfSource.Ghosts S) (sink : OfSink.Ghosts K) (disk : OfDisk.Ghosts D)
@@ -79,7 +80,7 @@ module _ {S K D A : Type 0} (source : OfSource.Ghosts S) (sink : OfSink.Ghosts K
     pub at_most : length bytes ≤ MOST_BYTES + 1
     pub among : StopsAmong sink disk session (old.1, old.2, old.3) (new.1, new.2, new.3) t n (ended_lines bytes) stop
     pub all : AllAt stop (length bytes) among.rest (AreAnsweredIn session t n (ended_lines bytes) (text_of among.done))
-    pub first : AnswersFirst source session old.0 new.0 t n bytes (text_of among.done)
+    pub first : AnswersEndedLines source session old.0 new.0 t n bytes (text_of among.done)
 
   -- A journal that comes in pieces came to its end. All lines that have ended are answered, and the input has the
   -- last one.

@@ -15,10 +15,10 @@ use Rattle.script_input.specs.declared.limits.TheConstants.{MOST_BYTES}
 use Rattle.store_run.specs.Devices.{Devices}
 use Rattle.store_run.specs.Crash.{IsAcknowledged}
 use Rattle.store_run.specs.Effects.{HoldsFirst, StandsOn}
-use Rattle.store_run.specs.ApplyEnds.{Exits}
+use Rattle.store_run.specs.ApplyEnds.{ExitsApply}
 use Rattle.store_run.specs.OkLines.{ok_lines}
 use Rattle.store_run.specs.Refusals.{IsUnwritten, IsOpening, FailsUnopened}
-use Rattle.store_run.specs.StoreRuns.{run, AreSteps, last, any_refused, text_of, kept_of}
+use Rattle.store_run.specs.StoreRuns.{run_in_store, AreSteps, last_stored, any_line_refused, text_of, kept_of}
 use Rattle.store_run.specs.declared.session.StoredAnswer.{StoredAnswer}
 use Rattle.store_run.specs.declared.session.StoredSession as OfSession
 use Rattle.command_ends.specs.declared.status.Status.{Status}
@@ -31,7 +31,7 @@ abbrev pub EachStands : {A : Type 0} → (session : OfSession.Ghosts A) → List
 EachStands session before t version steps = (front rest : List (List ℕ))
     → option_to_list version ++ kept_of steps ≡ front ++ rest
     → (xs : List (session.State × StoredAnswer)) × (ys : List (session.State × StoredAnswer)) × (v : Option (List ℕ))
-    × (steps ≡ xs ++ ys) × (session.stands_for (before ++ front) ≡ Ok (last t xs, v))
+    × (steps ≡ xs ++ ys) × (session.stands_for (before ++ front) ≡ Ok (last_stored t xs, v))
     × (front ++ option_to_list v ≡ option_to_list version ++ kept_of xs) × ((front ≡ []) ⊎ (v ≡ None))
 
 -- The sync of the opening failed. Nothing was taken or written, and there is no image that was not possible before.
@@ -57,13 +57,14 @@ module _ {S K D A : Type 0} (source : OfSource.Ghosts S) (sink : OfSink.Ghosts K
     pub at_end : IsRead source old.0 new.source
     pub within : length bytes ≤ MOST_BYTES
     pub steps : List (session.State × StoredAnswer)
-    pub is_run : run session t 0 (lines_of bytes) ≡ Some steps
-    pub given : Gave sink old.1 new.sink (text_of steps ++ session.state_text (last t steps))
+    pub is_run : run_in_store session t 0 (lines_of bytes) ≡ Some steps
+    pub given : Gave sink old.1 new.sink (text_of steps ++ session.state_text (last_stored t steps))
     pub kept : IfSome (disk.content new.disk) (HoldsPayloads ((before ++ option_to_list version) ++ kept_of steps))
-    pub stand : session.stands_for ((before ++ option_to_list version) ++ kept_of steps) ≡ Ok (last t steps, None)
+    pub stand : session.stands_for ((before ++ option_to_list version) ++ kept_of steps)
+        ≡ Ok (last_stored t steps, None)
     pub count : session.count_of ((before ++ option_to_list version) ++ kept_of steps)
         ≡ session.count_of before + length (kept_of steps)
-    pub ended : status ≡ status_at_end (any_refused steps)
+    pub ended : status ≡ status_at_end (any_line_refused steps)
 
 module _ {S K D A : Type 0} (source : OfSource.Ghosts S) (sink : OfSink.Ghosts K) (disk : OfDisk.Ghosts D)
     (session : OfSession.Ghosts A) (old new : Devices S K D) where
@@ -80,7 +81,7 @@ module _ {S K D A : Type 0} (source : OfSource.Ghosts S) (sink : OfSink.Ghosts K
     pub rest : List Line
     pub parts : lines_of bytes ≡ lines ++ rest
     pub steps : List (session.State × StoredAnswer)
-    pub is_run : run session t 0 lines ≡ Some steps
+    pub is_run : run_in_store session t 0 lines ≡ Some steps
     pub given : List ℕ
     pub appends : Gave sink old.sink new.sink given
     pub now : (c : List ℕ) → disk.images new.disk c
@@ -103,10 +104,11 @@ module _ {S K D A : Type 0} (source : OfSource.Ghosts S) (sink : OfSink.Ghosts K
     pub t' : session.State
     pub opens : IsOpening disk old.disk d1
     pub stands : StandsOn disk d1 log before
-    pub exits : Exits source sink disk session (old.source, old.sink, d1, log) (new.source, new.sink, new.disk, log')
+    pub exits : ExitsApply source sink disk session (old.source, old.sink, d1, log)
+        (new.source, new.sink, new.disk, log')
         (option_to_list version) t t' status
     pub stand : (steps : List (session.State × StoredAnswer)) → AreSteps session t steps
-        → session.stands_for ((before ++ option_to_list version) ++ kept_of steps) ≡ Ok (last t steps, None)
+        → session.stands_for ((before ++ option_to_list version) ++ kept_of steps) ≡ Ok (last_stored t steps, None)
     pub each : (steps : List (session.State × StoredAnswer)) → AreSteps session t steps
         → EachStands session before t version steps
 

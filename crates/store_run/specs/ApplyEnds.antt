@@ -1,5 +1,5 @@
--- How `apply` ends over a session that was opened, and what holds then. Read it from the end: `IsSafeFrom`, `Exits`,
--- then `Continues`.
+-- How `apply` ends over a session that was opened, and what holds then. Read it from the end: `IsSafeFrom`,
+-- `ExitsApply`, then `Continues`.
 use Rattle.std.specs.Prelude.{◌≡◌, ◌⊎◌, ℕ, ◌+◌, ◌≤◌, List, [], ◌++◌, length, false, Some}
 use Rattle.lens_io.specs.Calls.{Took, IsRead, IsUnasked, Gave, GaveFront}
 use Rattle.lens_io.specs.DiskRuns.{LeavesOnly}
@@ -14,12 +14,12 @@ use Rattle.lens_io.specs.Disks.{Steps}
 use Rattle.script_input.specs.declared.limits.TheConstants.{MOST_BYTES}
 use Rattle.store_run.specs.Devices.{Devices}
 use Rattle.store_run.specs.Crash.{IsAcknowledged}
-use Rattle.store_run.specs.Effects.{HoldsFirst, StandsOn, Adds, Stops}
+use Rattle.store_run.specs.Effects.{HoldsFirst, StandsOn, Adds, StopsStoring}
 use Rattle.store_run.specs.JournalEnds.{EndsJournal, StopsJournal}
 use Rattle.store_run.specs.OkLines.{ok_lines}
 use Rattle.store_run.specs.Refusals.{refusal_line}
 use Rattle.store_run.specs.declared.refusals.StoreRefusal.TheVariants as refusing
-use Rattle.store_run.specs.StoreRuns.{run, AreSteps, last, any_refused, text_of, kept_of}
+use Rattle.store_run.specs.StoreRuns.{run_in_store, AreSteps, last_stored, any_line_refused, text_of, kept_of}
 use Rattle.store_run.specs.Stopping.{IsOwnStop}
 use Rattle.store_run.specs.declared.session.StoredAnswer.{StoredAnswer}
 use Rattle.store_run.specs.declared.session.StoredSession as OfSession
@@ -77,7 +77,7 @@ module _ {S K D A : Type 0} (source : OfSource.Ghosts S) (sink : OfSink.Ghosts K
   abbrev pub StopsStored : List (List ℕ) → session.State → Stop → Type 0
   StopsStored version t stop =
       IsOwnStop stop × IsUnasked source old.0 new.0
-      × Stops sink disk (old.1, old.2, old.3) (new.1, new.2, new.3) stop [] [] [] version
+      × StopsStoring sink disk (old.1, old.2, old.3) (new.1, new.2, new.3) stop [] [] [] version
       ⊎ AfterVersion sink disk (old.1, old.2, old.3) version (λ d1 l1.
       StopsJournal source sink disk session (old.0, old.1, d1, l1) new t 0 stop)
 
@@ -92,14 +92,14 @@ module _ {S K D A : Type 0} (source : OfSource.Ghosts S) (sink : OfSink.Ghosts K
     pub at_end : IsRead source old.0 new.0
     pub within : length bytes ≤ MOST_BYTES
     pub steps : List (session.State × StoredAnswer)
-    pub is_run : run session t 0 (lines_of bytes) ≡ Some steps
-    pub at_last : last t steps ≡ t'
+    pub is_run : run_in_store session t 0 (lines_of bytes) ≡ Some steps
+    pub at_last : last_stored t steps ≡ t'
     pub chain : AreSteps session t steps
     pub given : Gave sink old.1 new.1 (text_of steps ++ session.state_text t')
     pub stored : (base : List (List ℕ)) → StandsOn disk old.2 old.3 base
         → StandsOn disk new.2 new.3 ((base ++ version) ++ kept_of steps)
     pub behind : Steps (KeepsBehind (new.3.gate + 1)) (disk.content old.2) (disk.content new.2)
-    pub ended : status ≡ status_at_end (any_refused steps)
+    pub ended : status ≡ status_at_end (any_line_refused steps)
 
   -- The end of the journal was reached, and not all of the state lines were written: memory ran out before them, or
   -- the sink failed.
@@ -119,8 +119,8 @@ module _ {S K D A : Type 0} (source : OfSource.Ghosts S) (sink : OfSink.Ghosts K
     pub status_is : SaysStop sink k1 new.1 stop status
 
   -- how the call ends
-  abbrev pub Exits : List (List ℕ) → session.State → session.State → Status → Type 0
-  Exits version t t' status = Continues version t t' status ⊎ EndsShort version t t' status
+  abbrev pub ExitsApply : List (List ℕ) → session.State → session.State → Status → Type 0
+  ExitsApply version t t' status = Continues version t t' status ⊎ EndsShort version t t' status
       ⊎ StopsShort version t status
 
 module _ {S K D A : Type 0} (source : OfSource.Ghosts S) (sink : OfSink.Ghosts K) (disk : OfDisk.Ghosts D)
@@ -137,7 +137,7 @@ module _ {S K D A : Type 0} (source : OfSource.Ghosts S) (sink : OfSink.Ghosts K
     pub rest : List Line
     pub parts : lines_of bytes ≡ lines ++ rest
     pub steps : List (session.State × StoredAnswer)
-    pub is_run : run session t 0 lines ≡ Some steps
+    pub is_run : run_in_store session t 0 lines ≡ Some steps
     pub chain : AreSteps session t steps
     pub given : List ℕ
     pub appends : Gave sink old.1 new.sink given

@@ -1,4 +1,4 @@
--- What a part of a call does to the sink, the disk and the log. Read it from the end: `Stops`, then `Adds`.
+-- What a part of a call does to the sink, the disk and the log. Read it from the end: `StopsStoring`, then `Adds`.
 use Rattle.std.specs.Prelude.{◌≡◌, ◌⊎◌, ℕ, ◌+◌, ◌-◌, ◌^◌, ◌<◌, List, [], ◌∷◌, ◌++◌, length, IfSome}
 use Rattle.std.specs.declared.option.Option.{Option}
 use Rattle.lens_io.specs.Calls.{Gave}
@@ -93,7 +93,7 @@ module _ {K D : Type 0} (sink : OfSink.Ghosts K) (disk : OfDisk.Ghosts D) (old n
 
   -- A part of a call stopped. These answers were written and these payloads stored, and this answer and payload were
   -- begun, if any. What is behind the place where the log ends with all of them was there before.
-  pub record Stops (stop : Stop) (text begun_text : List ℕ) (kept begun : List (List ℕ)) : Type 0 where
+  pub record StopsStoring (stop : Stop) (text begun_text : List ℕ) (kept begun : List (List ℕ)) : Type 0 where
     pub given : GivesAt sink old.0 new.0 stop text begun_text
     pub stored : StoresAt disk (old.1, old.2) (new.1, new.2) stop kept begun
     pub moments : (base : List (List ℕ)) → StandsOn disk old.1 old.2 base

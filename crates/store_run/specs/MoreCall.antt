@@ -37,8 +37,8 @@ module _ {K D : Type 0} (sink : OfSink.Ghosts K) (disk : OfDisk.Ghosts D) (old n
 
   -- What was written and stored: the log was opened, and from there the payload was stored and the lines written, or
   -- the call was stopped; or it failed before, and nothing was written.
-  abbrev pub Exits : List (List ℕ) → List ℕ → List ℕ → Status → Type 0
-  Exits before payload lines status =
+  abbrev pub ExitsMore : List (List ℕ) → List ℕ → List ℕ → Status → Type 0
+  ExitsMore before payload lines status =
       StoresBehind sink disk old new (λ d1 _. IsOpening disk old.1 d1) before lines [] payload status
       ⊎ IsUnwritten disk old.1 new.1 × FailsUnopened sink disk old new status
 

@@ -10,14 +10,14 @@ abbrev pub OneHasNoRoom : ℕ → List (List ℕ) → List ℕ → Type 0
 OneHasNoRoom most before payload = HasNoRoom most before (payload ∷ [])
 
 -- What holds after each status. The room of the disk is given, if it is known. No status comes that is not named.
-abbrev pub IsCauseInRoom : Option ℕ → List (List ℕ) → List ℕ → Status → Type 0
-IsCauseInRoom room before payload ending.StoreRefused = OneHasNoRoom most_bytes before payload
-IsCauseInRoom room before payload ending.DiskFault = IfSome room (λ most. OneHasNoRoom most before payload)
-IsCauseInRoom room before payload ending.Done = Unit {0}
-IsCauseInRoom room before payload ending.SinkFault = Unit {0}
-IsCauseInRoom room before payload ending.NoMemory = Unit {0}
-IsCauseInRoom room before payload status = ⊥
+abbrev pub IsMoreCauseInRoom : Option ℕ → List (List ℕ) → List ℕ → Status → Type 0
+IsMoreCauseInRoom room before payload ending.StoreRefused = OneHasNoRoom most_bytes before payload
+IsMoreCauseInRoom room before payload ending.DiskFault = IfSome room (λ most. OneHasNoRoom most before payload)
+IsMoreCauseInRoom room before payload ending.Done = Unit {0}
+IsMoreCauseInRoom room before payload ending.SinkFault = Unit {0}
+IsMoreCauseInRoom room before payload ending.NoMemory = Unit {0}
+IsMoreCauseInRoom room before payload status = ⊥
 
 -- the same over this disk
 abbrev pub IsMoreCause : {D : Type 0} → OfDisk.Ghosts D → D → List (List ℕ) → List ℕ → Status → Type 0
-IsMoreCause disk d before payload status = IsCauseInRoom (disk.room d) before payload status
+IsMoreCause disk d before payload status = IsMoreCauseInRoom (disk.room d) before payload status

@@ -11,7 +11,7 @@ use Rattle.gate_log.specs.LogOnDisk.{LogState, HoldsPayloads}
 use Rattle.gate_log.specs.declared.fault.LogFault.{LogFault}
 use Rattle.gate_log.specs.declared.fault.LogFault.TheVariants as log
 use Rattle.store_run.specs.Effects.{StandsOn}
-use Rattle.store_run.specs.Refusals.{Refuses}
+use Rattle.store_run.specs.Refusals.{WritesRefusal}
 use Rattle.store_run.specs.Stores.{Store}
 use Rattle.store_run.specs.declared.opening.OpenFault.{OpenFault}
 use Rattle.store_run.specs.declared.opening.OpenFault.TheVariants.{Refused, DiskFault, NoMemory}
@@ -84,6 +84,6 @@ IsRefusedFor reason NoMemory = Unit {0}
 -- ---- the end of a command whose store was not opened
 
 abbrev pub EndsUnopened : {K : Type 0} → OfSink.Ghosts K → K → K → OpenFault → Status → Type 0
-EndsUnopened sink old new (Refused refusal) status = Refuses sink old new refusal status
+EndsUnopened sink old new (Refused refusal) status = WritesRefusal sink old new refusal status
 EndsUnopened sink old new DiskFault status = (status ≡ ending.DiskFault) × Gave sink old new []
 EndsUnopened sink old new NoMemory status = (status ≡ ending.NoMemory) × Gave sink old new []

@@ -13,16 +13,10 @@ use Rattle.store_run.specs.StoreEnds.{StoresBehind}
 use Rattle.store_run.specs.declared.session.StoredSession as OfSession
 use Rattle.command_ends.specs.declared.status.Status.{Status}
 
--- The sync of the opening failed. Nothing was written, and there is no image that was not possible before.
-pub record IsUnpacked {K D : Type 0} (sink : OfSink.Ghosts K) (disk : OfDisk.Ghosts D) (old new : K × D) : Type 0 where
-  pub given : Gave sink old.0 new.0 []
-  pub only : (c : List ℕ) → disk.images new.1 c → disk.images old.1 c
-  pub moments : LeavesOnly disk old.1 new.1 (disk.images old.1)
-
 module _ {A : Type 0} (session : OfSession.Ghosts A) where
   -- the payloads from before, with the first of those that are kept or with all of them, stand for the same state
-  abbrev pub EachStands : List (List ℕ) → session.State → List (List ℕ) → Type 0
-  EachStands before t kept = (front rest : List (List ℕ)) → kept ≡ front ++ rest
+  abbrev pub EachStandsPacked : List (List ℕ) → session.State → List (List ℕ) → Type 0
+  EachStandsPacked before t kept = (front rest : List (List ℕ)) → kept ≡ front ++ rest
       → (v : Option (List ℕ)) × (session.stands_for (before ++ front) ≡ Ok (t, v))
 
   -- what `pack` stores behind the payloads from before: the version record if it was to be stored, and the snapshot of
@@ -40,7 +34,7 @@ module _ {D A : Type 0} (disk : OfDisk.Ghosts D) (session : OfSession.Ghosts A) 
     pub is : (kept ≡ []) ⊎ session.has_snapshot t × (kept ≡ packed session t version)
     pub now : (c : List ℕ) → disk.images new c → HoldsFirst before kept c
     pub moments : LeavesOnly disk old new (λ c. past c ⊎ HoldsFirst before kept c)
-    pub stand : EachStands session before t kept
+    pub stand : EachStandsPacked session before t kept
 
 -- A sink and a disk, before a call and after it. The payloads held before the call stand for the state t, with a
 -- version record if it is still to be stored.
@@ -67,7 +61,7 @@ module _ {K D A : Type 0} (sink : OfSink.Ghosts K) (disk : OfDisk.Ghosts D) (ses
     pub has : session.has_snapshot t
     pub ends : StoresBehind sink disk old new (λ d1 _. IsOpening disk old.1 d1) before
         (packed_line (session.count_of before)) (option_to_list version) (session.snapshot_text t) status
-    pub stand : EachStands session before t (packed session t version)
+    pub stand : EachStandsPacked session before t (packed session t version)
 
   -- the call ended so, or failed before: then nothing was written to the disk or the sink
   abbrev pub EndsPack : List (List ℕ) → session.State → Option (List ℕ) → Status → Type 0

@@ -1,5 +1,5 @@
 -- Why a store is refused, the line that says so, and how a command ends with it.
--- Read it from the end: `refusal_in`, `EndsRefused`, `Refuses`, then `refusal_line`.
+-- Read it from the end: `refusal_in`, `EndsRefused`, `WritesRefusal`, then `refusal_line`.
 use Rattle.std.specs.Prelude.{◌≡◌, ◌⊎◌, ℕ, List, [], ◌++◌, codes, decimal, Option, Some, None, IsNone, Result, Ok, Err}
 use Rattle.lens_io.specs.Calls.{Gave, GaveFront}
 use Rattle.lens_io.specs.DiskRuns.{LeavesOnly}
@@ -36,8 +36,8 @@ refusal_line refusal = codes "store refused: " ++ refusal_text refusal ++ codes 
 
 module _ {K : Type 0} (sink : OfSink.Ghosts K) (old new : K) where
   -- The line was written. Or the sink failed at it, or memory ran out before it.
-  abbrev pub Refuses : StoreRefusal → Status → Type 0
-  Refuses refusal status =
+  abbrev pub WritesRefusal : StoreRefusal → Status → Type 0
+  WritesRefusal refusal status =
       (status ≡ ending.StoreRefused) × Gave sink old new (refusal_line refusal)
       ⊎ (status ≡ ending.SinkFault) × GaveFront sink old new (refusal_line refusal)
       ⊎ (status ≡ ending.NoMemory) × Gave sink old new []
@@ -70,7 +70,7 @@ module _ {K D : Type 0} (sink : OfSink.Ghosts K) (disk : OfDisk.Ghosts D) (old n
 
   -- the end over bytes that are refused for this reason, unless the command failed before it was known
   abbrev pub EndsRefused : StoreRefusal → Status → Type 0
-  EndsRefused refusal status = Refuses sink old.0 new.0 refusal status ⊎ FailsUnopened status
+  EndsRefused refusal status = WritesRefusal sink old.0 new.0 refusal status ⊎ FailsUnopened status
 
 -- ---- the bytes of a disk
 

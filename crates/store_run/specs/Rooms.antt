@@ -10,7 +10,7 @@ use Rattle.edit_journal.specs.declared.line.Line.{Line}
 use Rattle.gate_log.specs.LogBytes.{closed_gate}
 use Rattle.script_input.specs.declared.limits.TheConstants.{MOST_BYTES}
 use Rattle.store_run.specs.PackCall.{packed}
-use Rattle.store_run.specs.StoreRuns.{run, kept_of}
+use Rattle.store_run.specs.StoreRuns.{run_in_store, kept_of}
 use Rattle.store_run.specs.declared.session.StoredAnswer.{StoredAnswer}
 use Rattle.store_run.specs.declared.session.StoredSession as OfSession
 use Rattle.command_ends.specs.declared.status.Status.{Status}
@@ -53,7 +53,7 @@ module _ {S A : Type 0} (source : OfSource.Ghosts S) (session : OfSession.Ghosts
     pub rest : List Line
     pub parts : lines_of bytes ≡ lines ++ rest
     pub steps : List (session.State × StoredAnswer)
-    pub is_run : run session t 0 lines ≡ Some steps
+    pub is_run : run_in_store session t 0 lines ≡ Some steps
     pub no_room : HasNoRoom most before (option_to_list version ++ kept_of steps)
 
   -- What holds after each status of `apply` over payloads that stand for a session, on a disk of this room.

@@ -4,7 +4,7 @@ use Rattle.std.specs.Prelude.{◌≡◌, ◌⊎◌, ℕ, List, [], ◌∷◌, �
 use Rattle.lens_io.specs.declared.sink.Sink as OfSink
 use Rattle.lens_io.specs.declared.disk.Disk as OfDisk
 use Rattle.gate_log.specs.LogOnDisk.{LogState}
-use Rattle.store_run.specs.Effects.{StandsOn, Adds, Stops}
+use Rattle.store_run.specs.Effects.{StandsOn, Adds, StopsStoring}
 use Rattle.store_run.specs.ApplyEnds.{SaysStop}
 use Rattle.store_run.specs.Stopping.{IsOwnStop}
 use Rattle.command_ends.specs.declared.status.Status.{Status}
@@ -19,8 +19,8 @@ module _ {K D : Type 0} (sink : OfSink.Ghosts K) (disk : OfDisk.Ghosts D) (old n
     pub k1 : K
     pub stop : Stop
     pub own : IsOwnStop stop
-    pub stops : Stops sink disk old (k1, new.1, new.2) stop [] [] [] front
-        ⊎ Stops sink disk old (k1, new.1, new.2) stop [] line front (payload ∷ [])
+    pub stops : StopsStoring sink disk old (k1, new.1, new.2) stop [] [] [] front
+        ⊎ StopsStoring sink disk old (k1, new.1, new.2) stop [] line front (payload ∷ [])
     pub status_is : SaysStop sink k1 new.0 stop status
 
   -- The payloads in front and the payload were stored, and then the line was written; or the command was stopped.

@@ -6,7 +6,7 @@ ghost use Rattle.script_input.specs.Taking.{GaveFew};
 ghost use Rattle.script_input.specs.declared.limits.TheConstants.{PIECE_BYTES};
 ghost use Rattle.store_run.specs.Devices.{devices_of};
 ghost use Rattle.store_run.specs.ApplyCall.{ContinuesCall, IsSafeCall, IsUnopened, EndsCall};
-ghost use Rattle.store_run.specs.InTime.{AnswersInTime};
+ghost use Rattle.store_run.specs.InTime.{StoreAnswersInTime};
 ghost use Rattle.store_run.specs.Refusals.{IsUnwritten, EndsRefused};
 ghost use Rattle.store_run.specs.Rooms.{most_bytes, TakesTooMany, RunHasNoRoom, IsApplyCause};
 ghost use Rattle.store_run.specs.Stores.{Store, RefusedStore};
@@ -59,7 +59,7 @@ pub fn apply<S: Source, A: StoredSession + Drop, K: Sink, D: Disk>(
         (devices_of source.old sink.old disk.old) (devices_of source.new sink.new disk.new)
         store.payloads store.state store.version result }
     ensures in_time { (store : Store D.Disk A.StoredSession disk.old)
-        → AnswersInTime S.Source K.Sink A.StoredSession
+        → StoreAnswersInTime S.Source K.Sink A.StoredSession
         (source.old, sink.old) (source.new, sink.new) store.state result }
     ensures few { GaveFew S.Source source.old source.new PIECE_BYTES }
     ensures causes { (store : Store D.Disk A.StoredSession disk.old)

@@ -10,8 +10,8 @@ ghost use Rattle.store_run.specs.Devices.{devices_of};
 ghost use Rattle.store_run.specs.Answered.{Answers, StopsAmong};
 ghost use Rattle.store_run.specs.ApplyCauses.{Counted, stop_in};
 ghost use Rattle.store_run.specs.Effects.{StandsOn};
-ghost use Rattle.store_run.specs.ApplyEnds.{EndsStored, StopsStored, Exits, IsSafeFrom};
-ghost use Rattle.store_run.specs.InTime.{AnswersInTime};
+ghost use Rattle.store_run.specs.ApplyEnds.{EndsStored, StopsStored, ExitsApply, IsSafeFrom};
+ghost use Rattle.store_run.specs.InTime.{StoreAnswersInTime};
 ghost use Rattle.store_run.specs.JournalEnds.{EndsJournal, StopsJournal};
 ghost use Rattle.store_run.specs.OkLines.{AreOtherLines};
 ghost use Rattle.store_run.specs.Stopping.{IsOwnStop};
@@ -152,7 +152,7 @@ pub fn continue_store<S: Source, A: StoredSession, K: Sink, D: Disk>(
     sink: &mut K,
 ) -> Status
     requires stands { (base : List (List ℕ)) × StandsOn D.Disk disk.old log.old base }
-    ensures exits { Exits S.Source K.Sink D.Disk A.StoredSession
+    ensures exits { ExitsApply S.Source K.Sink D.Disk A.StoredSession
         (source.old, sink.old, disk.old, log.old)
         (source.new, sink.new, disk.new, log.new)
         (option_to_list version.now) (A.state session.old)
@@ -160,7 +160,7 @@ pub fn continue_store<S: Source, A: StoredSession, K: Sink, D: Disk>(
     ensures safe { IsSafeFrom S.Source K.Sink D.Disk A.StoredSession
         (source.old, sink.old, disk.old, log.old) (devices_of source.new sink.new disk.new)
         (option_to_list version.now) (A.state session.old) }
-    ensures in_time { AnswersInTime S.Source K.Sink A.StoredSession
+    ensures in_time { StoreAnswersInTime S.Source K.Sink A.StoredSession
         (source.old, sink.old) (source.new, sink.new) (A.state session.old) result }
     ensures few { GaveFew S.Source source.old source.new PIECE_BYTES }
     ensures statuses { IsStatusAmong apply_statuses result }

@@ -8,7 +8,7 @@ ghost use Rattle.script_input.specs.Taking.{GaveFew};
 ghost use Rattle.script_input.specs.declared.limits.TheConstants.{MOST_BYTES};
 ghost use Rattle.store_run.specs.Answered.{Answers, StopsAmong, AnswersThenTakes, StopsTurn, StopsPieces, EndsPieces};
 ghost use Rattle.store_run.specs.ApplyCauses.{Counted, stop_in};
-ghost use Rattle.store_run.specs.Effects.{StandsOn, Adds, Stops};
+ghost use Rattle.store_run.specs.Effects.{StandsOn, Adds, StopsStoring};
 ghost use Rattle.store_run.specs.Stopping.{IsOwnStop};
 
 use crate::session::{StoredAnswer, StoredSession};
@@ -52,7 +52,7 @@ fn give_answer<K: Sink, D: Disk>(
         (Adds K.Sink D.Disk (sink.old, disk.old, log.old) (sink.new, disk.new, log.new)
         answer.now.line (option_to_list answer.now.payload)) }
     ensures stopped { IfErr result (λ stop.
-        Stops K.Sink D.Disk (sink.old, disk.old, log.old) (sink.new, disk.new, log.new)
+        StopsStoring K.Sink D.Disk (sink.old, disk.old, log.old) (sink.new, disk.new, log.new)
         stop [] answer.now.line [] (option_to_list answer.now.payload)) }
     ensures own { IfErr result IsOwnStop }
     ensures counted { Counted K.Sink D.Disk (sink.old, disk.old) (sink.new, disk.new)
@@ -120,7 +120,7 @@ fn finish_item<K: Sink, D: Disk>(
         (Adds K.Sink D.Disk (sink.old, disk.old, log.old) (sink.new, disk.new, log.new)
         answer.now.line (option_to_list answer.now.payload)) }
     ensures stopped { IfErr result (λ stop.
-        Stops K.Sink D.Disk (sink.old, disk.old, log.old) (sink.new, disk.new, log.new)
+        StopsStoring K.Sink D.Disk (sink.old, disk.old, log.old) (sink.new, disk.new, log.new)
         stop [] answer.now.line [] (option_to_list answer.now.payload)) }
     ensures number { OnOk result (progress.new.number ≡ progress.old.number + 1) }
     ensures refused { OnOk result

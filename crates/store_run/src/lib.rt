@@ -6,7 +6,7 @@
 //! command that changes a store in its own way makes one payload and some lines, and ends with [`store_last`].
 //!
 //! However `apply` ends, each line that had ended when the source was called last is answered, and its answer was
-//! written: `AnswersInTime` in specs/InTime.antt. So a line is answered before more is asked for.
+//! written: `StoreAnswersInTime` in specs/InTime.antt. So a line is answered before more is asked for.
 //!
 //! A crash at any moment leaves a disk that holds the payload of each change whose `ok` line was written:
 //! `IsAcknowledged` in specs/Crash.antt, and `IsSafeCall` in specs/ApplyCall.antt for the complete call.

@@ -6,8 +6,9 @@ ghost use Rattle.lens_io.specs.Calls.{SinkFailed, DiskFailed};
 ghost use Rattle.gate_log.specs.LogOnDisk.{HoldsPayloads};
 ghost use Rattle.store_run.specs.ApplyCauses.{Counted, stop_in};
 ghost use Rattle.store_run.specs.CountLines.{packed_line};
-ghost use Rattle.store_run.specs.Effects.{StandsOn, Adds, Stops};
-ghost use Rattle.store_run.specs.PackCall.{PacksCall, IsSafePack, IsUnpacked, EndsPack};
+ghost use Rattle.store_run.specs.Effects.{StandsOn, Adds, StopsStoring};
+ghost use Rattle.store_run.specs.MoreCall.{IsUntouched};
+ghost use Rattle.store_run.specs.PackCall.{PacksCall, IsSafePack, EndsPack};
 ghost use Rattle.store_run.specs.Refusals.{IsUnwritten, EndsRefused};
 ghost use Rattle.store_run.specs.Rooms.{most_bytes, PackHasNoRoom, IsPackCause};
 ghost use Rattle.store_run.specs.Stopping.{IsOwnStop};
@@ -50,7 +51,7 @@ pub fn pack<A: StoredSession + Drop, K: Sink, D: Disk>(
         store.payloads store.state store.version }
     ensures safe { (store : Store D.Disk A.StoredSession disk.old)
         → (result ≡ Status.DiskFault)
-        × IsUnpacked K.Sink D.Disk (sink.old, disk.old) (sink.new, disk.new)
+        × IsUntouched K.Sink D.Disk (sink.old, disk.old) (sink.new, disk.new)
         ⊎ IsSafePack D.Disk A.StoredSession disk.old disk.new
         (D.images disk.old) store.payloads store.state store.version }
     ensures exits { (store : Store D.Disk A.StoredSession disk.old)
@@ -172,9 +173,9 @@ pub fn pack_store<K: Sink, D: Disk>(
         (Adds K.Sink D.Disk (sink.old, disk.old, log.old) (sink.new, disk.new, log.new)
         line.now (option_to_list version.now ++ snapshot.now ∷ [])) }
     ensures stopped { IfErr result (λ stop.
-        Stops K.Sink D.Disk (sink.old, disk.old, log.old) (sink.new, disk.new, log.new)
+        StopsStoring K.Sink D.Disk (sink.old, disk.old, log.old) (sink.new, disk.new, log.new)
         stop [] [] [] (option_to_list version.now)
-        ⊎ Stops K.Sink D.Disk (sink.old, disk.old, log.old) (sink.new, disk.new, log.new)
+        ⊎ StopsStoring K.Sink D.Disk (sink.old, disk.old, log.old) (sink.new, disk.new, log.new)
         stop [] line.now (option_to_list version.now) (snapshot.now ∷ [])) }
     ensures own { IfErr result IsOwnStop }
     ensures counted { Counted K.Sink D.Disk (sink.old, disk.old) (sink.new, disk.new)

@@ -4,7 +4,7 @@ ghost use Rattle.command_ends.specs.Statuses.{IsStatusAmong, apply_statuses, qui
 ghost use Rattle.lens_io.specs.Calls.{Gave, GaveFront, SinkFailed};
 ghost use Rattle.store_run.specs.ApplyEnds.{SaysStop};
 ghost use Rattle.store_run.specs.Stopping.{IsOwnStop};
-ghost use Rattle.store_run.specs.Refusals.{refusal_line, Refuses};
+ghost use Rattle.store_run.specs.Refusals.{refusal_line, WritesRefusal};
 
 use crate::stop::Stop;
 use command_ends::Status;
@@ -32,7 +32,7 @@ pub enum StoreRefusal {
 /// Ends a command by a refusal: its line `store refused: REASON` is written. Only a line with the number of a record
 /// allocates.
 pub fn refuse<K: Sink>(alloc: Global, refusal: StoreRefusal, sink: &mut K) -> Status
-    ensures refuses { Refuses K.Sink sink.old sink.new refusal result }
+    ensures refuses { WritesRefusal K.Sink sink.old sink.new refusal result }
     ensures statuses { IsStatusAmong quiet_statuses result }
     ensures sink_fault { result ≡ Status.SinkFault → SinkFailed K.Sink sink.old sink.new }
 {
@@ -65,7 +65,7 @@ fn not_consistent_line(alloc: Global, number: u64) -> Result<Bytes, AllocError>
 // Writes the line of a refusal that was made, if there was memory.
 fn give_made<K: Sink>(sink: &mut K, line: Result<Bytes, AllocError>) -> Status
     ensures refuses { (refusal : StoreRefusal) → IfOk line (λ text. text ≡ refusal_line refusal)
-        → Refuses K.Sink sink.old sink.new refusal result }
+        → WritesRefusal K.Sink sink.old sink.new refusal result }
     ensures statuses { IsStatusAmong quiet_statuses result }
     ensures sink_fault { result ≡ Status.SinkFault → SinkFailed K.Sink sink.old sink.new }
 {

@@ -2,7 +2,7 @@
 ghost use Rattle.std.specs.Prelude.{◌≡◌, ◌≤◌, ◌∷◌, [], List, ℕ, OnOk, IfErr, IsErrOf, option_to_list};
 ghost use Rattle.lens_io.specs.Calls.{Gave, GaveFront, SinkFailed};
 ghost use Rattle.store_run.specs.ApplyCauses.{Counted, stop_in};
-ghost use Rattle.store_run.specs.Effects.{StandsOn, Adds, Stops};
+ghost use Rattle.store_run.specs.Effects.{StandsOn, Adds, StopsStoring};
 ghost use Rattle.store_run.specs.Stopping.{IsOwnStop};
 
 use crate::stop::Stop;
@@ -30,7 +30,7 @@ pub fn store_and_answer<K: Sink, D: Disk>(
         (Adds K.Sink D.Disk (sink.old, disk.old, log.old) (sink.new, disk.new, log.new)
         line.now (payload.now ∷ [])) }
     ensures stopped { IfErr result (λ stop.
-        Stops K.Sink D.Disk (sink.old, disk.old, log.old) (sink.new, disk.new, log.new) stop []
+        StopsStoring K.Sink D.Disk (sink.old, disk.old, log.old) (sink.new, disk.new, log.new) stop []
         line.now [] (payload.now ∷ [])) }
     ensures own { IfErr result IsOwnStop }
     ensures counted { Counted K.Sink D.Disk (sink.old, disk.old) (sink.new, disk.new)
@@ -76,7 +76,7 @@ pub fn store_version<K: Sink, D: Disk>(
         (Adds K.Sink D.Disk (_sink.now, disk.old, log.old) (_sink.now, disk.new, log.new)
         [] (option_to_list version.now)) }
     ensures stopped { IfErr result (λ stop.
-        Stops K.Sink D.Disk (_sink.now, disk.old, log.old) (_sink.now, disk.new, log.new)
+        StopsStoring K.Sink D.Disk (_sink.now, disk.old, log.old) (_sink.now, disk.new, log.new)
         stop [] [] [] (option_to_list version.now)) }
     ensures own { IfErr result IsOwnStop }
     ensures counted { Counted K.Sink D.Disk (_sink.now, disk.old) (_sink.now, disk.new)

@@ -10,7 +10,7 @@ use Rattle.edit_session.specs.Step.{TripleTree}
 use Rattle.pair_answers.specs.Answers.{answer_line}
 use Rattle.pair_answers.specs.ItemRuns.{JournalItem, JournalAnswer, IsInStepFor, items_of}
 use Rattle.lens_forms.specs.Typing.{is_typed}
-use Rattle.store_run.specs.StoreRuns.{run, kept_of, any_refused}
+use Rattle.store_run.specs.StoreRuns.{run_in_store, kept_of, any_line_refused}
 use Rattle.store_run.specs.declared.session.StoredAnswer.{StoredAnswer}
 use Rattle.store_session.specs.Journals.{accepted_change, accepted_changes, IsStateInStep, IsRunOfItems, IsJournalRun}
 use Rattle.store_session.specs.StoredStates.{StoredState, state_with, change_text, payload_of, stored_answer, taken, answer_item, answer, stored_session}
@@ -48,7 +48,7 @@ module _ (s : StoredState) (n : ℕ) (item : JournalItem) (u : TripleTree) (x : 
         is_run = rw took (rw r.is_run refl);
         text = ap (λ text. answer_line (n + 1) x ++ text) r.text;
         at_last = r.at_last;
-        refused = ap (λ b. b || any_refused steps) (refused_alike s item u x took) ∙ ap (λ b. is_refused x || b) r.refused;
+        refused = ap (λ b. b || any_line_refused steps) (refused_alike s item u x took) ∙ ap (λ b. is_refused x || b) r.refused;
         kept =
             ap (λ ps. ps ++ kept_of steps) (payload_accepted item x (is_refused x) refl)
             ∙ ap (λ ps. map change_text (option_to_list (accepted_change item x)) ++ ps) r.kept
@@ -66,11 +66,11 @@ module _ {A : Type 0} (view : A → StoredState) where
   -- a line that is not blank, and the lines behind it
   abbrev first_and_others : StoredState → ℕ → Line → List Line → Option (List (StoredState × StoredAnswer))
   first_and_others s n line lines =
-      option_and_then (λ (m : StoredState × StoredAnswer). option_map (λ (steps : List (StoredState × StoredAnswer)). m ∷ steps) (run (stored_session view) m.0 (n + 1) lines)) (answer s (n + 1) line)
+      option_and_then (λ (m : StoredState × StoredAnswer). option_map (λ (steps : List (StoredState × StoredAnswer)). m ∷ steps) (run_in_store (stored_session view) m.0 (n + 1) lines)) (answer s (n + 1) line)
 
   first_run : (s : StoredState) (n : ℕ) (line : Line) (lines : List Line)
       → (k : (m : TripleTree × JournalAnswer) × (taken s (change_of_line line) ≡ Some m) × IsInStepFor s.form m.0)
-      → HasRun (state_with s.form k.0.0) (n + 1) (run (stored_session view) (state_with s.form k.0.0) (n + 1) lines) (items_of lines)
+      → HasRun (state_with s.form k.0.0) (n + 1) (run_in_store (stored_session view) (state_with s.form k.0.0) (n + 1) lines) (items_of lines)
       → HasRun s n (first_and_others s n line lines) (change_of_line line ∷ items_of lines)
   first_run s n line lines k rest =
       let item = change_of_line line in
@@ -80,14 +80,14 @@ module _ {A : Type 0} (view : A → StoredState) where
         run_more s n item k.0.0 k.0.1 k.1 k.2 (items_of lines) rest.0 rest.2,
       )
 
-  by_blank : (s : StoredState) (n : ℕ) (line : Line) (lines : List Line) (b : Bool) → HasRun s n (run (stored_session view) s n lines) (items_of lines)
+  by_blank : (s : StoredState) (n : ℕ) (line : Line) (lines : List Line) (b : Bool) → HasRun s n (run_in_store (stored_session view) s n lines) (items_of lines)
       → HasRun s n (first_and_others s n line lines) (change_of_line line ∷ items_of lines)
-      → HasRun s n (cond b (run (stored_session view) s n lines) (first_and_others s n line lines)) (cond b (items_of lines) (change_of_line line ∷ items_of lines))
+      → HasRun s n (cond b (run_in_store (stored_session view) s n lines) (first_and_others s n line lines)) (cond b (items_of lines) (change_of_line line ∷ items_of lines))
   by_blank s n line lines true skipped first = skipped
   by_blank s n line lines false skipped first = first
 
   pub runs : (s : StoredState) (n : ℕ) (lines : List Line) → is_typed s.form ≡ true → IsStateInStep s
-      → (steps : List (StoredState × StoredAnswer)) × (run (stored_session view) s n lines ≡ Some steps) × IsJournalRun s n lines steps
+      → (steps : List (StoredState × StoredAnswer)) × (run_in_store (stored_session view) s n lines ≡ Some steps) × IsJournalRun s n lines steps
   runs s n [] typed h = ([], refl, record { journal = []; is_run = refl; text = refl; at_last = refl; refused = refl; kept = refl; in_step = tt })
   runs s n (line ∷ lines) typed h =
       let k = item_in_step s.form typed s.triple (change_of_line line) h in
@@ -95,11 +95,11 @@ module _ {A : Type 0} (view : A → StoredState) where
       (first_run s n line lines k (runs (state_with s.form k.0.0) (n + 1) lines typed k.2))
 
   pub runs_to_the_end : (s : StoredState) (n : ℕ) (lines : List Line) → is_typed s.form ≡ true → IsStateInStep s
-      → (steps : List (StoredState × StoredAnswer)) × (run (stored_session view) s n lines ≡ Some steps)
+      → (steps : List (StoredState × StoredAnswer)) × (run_in_store (stored_session view) s n lines ≡ Some steps)
   runs_to_the_end s n lines typed h = let r = runs s n lines typed h in (r.0, r.1)
 
   pub runs_alike : (s : StoredState) (n : ℕ) (lines : List Line) (steps : List (StoredState × StoredAnswer)) → is_typed s.form ≡ true → IsStateInStep s
-      → run (stored_session view) s n lines ≡ Some steps → IsJournalRun s n lines steps
+      → run_in_store (stored_session view) s n lines ≡ Some steps → IsJournalRun s n lines steps
   runs_alike s n lines steps typed h e =
       let r = runs s n lines typed h in
       let is = r.1 in

@@ -10,7 +10,7 @@ use Rattle.edit_session.specs.Run as journals
 use Rattle.edit_session.specs.Run.{is_refused}
 use Rattle.pair_answers.specs.Answers.{answer_lines}
 use Rattle.pair_answers.specs.ItemRuns.{JournalItem, JournalAnswer, IsInStepFor, items_of, run_from}
-use Rattle.store_run.specs.StoreRuns.{text_of, kept_of, any_refused, last}
+use Rattle.store_run.specs.StoreRuns.{text_of, kept_of, any_line_refused, last_stored}
 use Rattle.store_run.specs.declared.session.StoredAnswer.{StoredAnswer}
 use Rattle.store_session.specs.StoredStates.{StoredState, state_with, change_text}
 
@@ -37,8 +37,8 @@ pub record IsRunOfItems (s : StoredState) (n : ℕ) (items : List JournalItem)
   pub journal : List (TripleTree × JournalAnswer)
   pub is_run : run_from s.form s.triple items ≡ Some journal
   pub text : text_of steps ≡ answer_lines (n + 1) journal
-  pub at_last : last s steps ≡ state_with s.form (journals.last s.triple journal)
-  pub refused : any_refused steps ≡ journals.any_refused journal
+  pub at_last : last_stored s steps ≡ state_with s.form (journals.last s.triple journal)
+  pub refused : any_line_refused steps ≡ journals.any_refused journal
   pub kept : kept_of steps ≡ map change_text (accepted_changes items journal)
   pub in_step : AllByRecursion (λ (step : StoredState × StoredAnswer). IsStateInStep step.0) steps
 

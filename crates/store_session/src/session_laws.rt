@@ -5,7 +5,7 @@ ghost use Rattle.std.specs.declared.option.Option.{Option};
 ghost use Rattle.edit_journal.specs.declared.line.Line.{Line};
 ghost use Rattle.lens_forms.specs.Typing.{is_typed};
 ghost use Rattle.store_run.specs.OkLines.{IsAnswer};
-ghost use Rattle.store_run.specs.StoreRuns.{run};
+ghost use Rattle.store_run.specs.StoreRuns.{run_in_store};
 ghost use Rattle.store_run.specs.declared.session.StoredAnswer.{StoredAnswer};
 ghost use Rattle.store_session.specs.Journals.{IsStateInStep, IsJournalRun};
 ghost use Rattle.store_session.specs.StoredStates.{StoredState, stands_for, answer};
@@ -29,10 +29,10 @@ pub fn answers_are_the_run()
     ensures ends { (state : StoredState) (number : ℕ) (lines : List Line)
         → is_typed state.form ≡ true → IsStateInStep state
         → (steps : List (StoredState × StoredAnswer))
-        × (run ⟦<StoreSession as StoredSession>⟧ state number lines ≡ Some steps) }
+        × (run_in_store ⟦<StoreSession as StoredSession>⟧ state number lines ≡ Some steps) }
     ensures same { (state : StoredState) (number : ℕ) (lines : List Line) (steps : List (StoredState × StoredAnswer))
         → is_typed state.form ≡ true → IsStateInStep state
-        → run ⟦<StoreSession as StoredSession>⟧ state number lines ≡ Some steps
+        → run_in_store ⟦<StoreSession as StoredSession>⟧ state number lines ≡ Some steps
         → IsJournalRun state number lines steps }
 {}
 

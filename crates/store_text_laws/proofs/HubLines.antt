@@ -7,7 +7,7 @@ use Rattle.edit_journal.specs.Lines.{is_blank}
 use Rattle.edit_journal.specs.declared.line.Line.{Line}
 use Rattle.edit_journal.specs.declared.line.Line.TheVariants.{Text, TooLong}
 use Rattle.edit_module.specs.Words.{WordTree}
-use Rattle.view_hub.specs.Hubs.{HubTree, CarriedTree, Place, ViewRefusal, no_view, no_apply, step}
+use Rattle.view_hub.specs.Hubs.{HubTree, CarriedTree, Place, ViewRefusal, no_view, no_apply, hub_step}
 use Rattle.hub_run.specs.Answers.{no_edit}
 use Rattle.hub_run.specs.EditJson.{edit_if_json, edit_of_line, edit_of_tree}
 use Rattle.hub_run.specs.FormLenses.{form_lens}
@@ -18,7 +18,7 @@ use Rattle.hub_session.specs.HubAnswers.{stored_hub_answer, hub_answer_item, edi
 use Rattle.hub_session.specs.HubStates.{stored_hub}
 use Rattle.script_run.specs.LineRuns as scripted
 use Rattle.script_run.specs.declared.line_answers.Answer.{Answer}
-use Rattle.store_run.specs.StoreRuns.{run}
+use Rattle.store_run.specs.StoreRuns.{run_in_store}
 use Rattle.store_run.specs.declared.session.StoredAnswer.{StoredAnswer}
 use Rattle.store_text_laws.specs.HubsAlike.{is_group_tree, is_group, HasNoGroup, edit_payload, stored_as, HaveSameRun}
 
@@ -52,7 +52,7 @@ module _ (s : HubState) (n : ℕ) where
   edit_alike e (Some (Err (no_apply at cause))) = refl
 
   item_alike : (item : HubItem) → hub_answer_item s n (as_hub_change one item) ≡ option_map (stored_as item) (script_item item)
-  item_alike (Ok e) = edit_alike e (step form_lens s.forms s.hub e)
+  item_alike (Ok e) = edit_alike e (hub_step form_lens s.forms s.hub e)
   item_alike (Err fault) = refl
 
   pub line_alike : (line : Line) → is_group line ≡ false → stored_hub_answer s n line ≡ option_map (stored_as (edit_of_line line)) (scripts.hub_answer s n line)
@@ -81,10 +81,10 @@ StoredSteps = List (HubState × StoredAnswer)
 -- `view` is the state of a value that answers, of which nothing is used here
 module _ {A : Type 0} (view : A → HubState) where
   abbrev stored_run : HubState → ℕ → List Line → Option StoredSteps
-  stored_run t n lines = run (stored_hub view) t n lines
+  stored_run t n lines = run_in_store (stored_hub view) t n lines
 
   abbrev script_run : HubState → ℕ → List Line → Option ScriptSteps
-  script_run t n lines = scripted.run scripts.hub_answer t n lines
+  script_run t n lines = scripted.run_lines scripts.hub_answer t n lines
 
   abbrev stored_behind : ℕ → List Line → HubState × StoredAnswer → Option StoredSteps
   stored_behind n lines made = option_map (λ (steps : StoredSteps). made ∷ steps) (stored_run made.0 (n + 1) lines)

@@ -26,7 +26,7 @@ use Rattle.script_run.specs.Report.{report, report_with, with_state}
 use Rattle.script_run.specs.declared.line_answers.Answer.{Answer}
 use Rattle.store_run.specs.Devices.{Devices}
 use Rattle.store_run.specs.ApplyCall.{ContinuesCall}
-use Rattle.store_run.specs.StoreRuns.{any_refused, kept_of, last, run, text_of}
+use Rattle.store_run.specs.StoreRuns.{any_line_refused, kept_of, last_stored, run_in_store, text_of}
 use Rattle.store_run.specs.declared.session.StoredAnswer.{StoredAnswer}
 use Rattle.store_text_laws.specs.HubsAlike.{HasNoGroup, HaveSameAnswers, HaveSameRun}
 use Rattle.store_text_laws.specs.StoreTexts.{AnswersAsHub}
@@ -35,27 +35,27 @@ use Rattle.store_text_laws.proofs.HubLines.{runs_alike}
 abbrev of_session : HubSession → HubState
 of_session s = hub_state_of s.hub
 
-pub hub_runs_alike : (t : HubState) (n : ℕ) (lines : List Line) → HasNoGroup lines → HaveSameRun t (run hubs t n lines) (scripted.run scripts.hub_answer t n lines)
+pub hub_runs_alike : (t : HubState) (n : ℕ) (lines : List Line) → HasNoGroup lines → HaveSameRun t (run_in_store hubs t n lines) (scripted.run_lines scripts.hub_answer t n lines)
 hub_runs_alike t n lines none = runs_alike of_session t n lines none
 
 -- ---- the report
 
 module _ (script : List ℕ) (forms : List FormTree) (lines : List Line) (steps : List (HubState × StoredAnswer)) (accepted : lenses_of (program_part script) ≡ Ok forms) (behind : journal script ≡ lines)
-    (is_run : run hubs (first_state forms) 0 lines ≡ Some steps) where
+    (is_run : run_in_store hubs (first_state forms) 0 lines ≡ Some steps) where
   abbrev t : HubState
   t = first_state forms
 
-  same_report : HaveSameAnswers t (run hubs t 0 lines) (scripted.run scripts.hub_answer t 0 lines) → report hub_script script ≡ Some (text_of steps ++ hub_state_text (last t steps), status_at_end (any_refused steps))
+  same_report : HaveSameAnswers t (run_in_store hubs t 0 lines) (scripted.run_lines scripts.hub_answer t 0 lines) → report hub_script script ≡ Some (text_of steps ++ hub_state_text (last_stored t steps), status_at_end (any_line_refused steps))
   same_report k =
       let both : Some k.steps ≡ Some steps = sym k.is ∙ is_run in
       let same : k.steps ≡ steps = cc in
       ap₂ (report_with hub_script) accepted behind
       ∙ ap (λ (o : Option (List (HubState × Answer))). option_map (with_state hub_script) (option_map (scripted.of_steps t) o)) k.other_is
       ∙ ap₂ (λ (x : List ℕ) (y : Status). Some (x, y))
-      (ap₂ (λ (x : List ℕ) (y : HubState). x ++ hub_state_text y) (sym k.same.text ∙ ap text_of same) (sym k.same.at_last ∙ ap (last t) same))
-      (ap status_at_end (sym k.same.refused ∙ ap any_refused same))
+      (ap₂ (λ (x : List ℕ) (y : HubState). x ++ hub_state_text y) (sym k.same.text ∙ ap text_of same) (sym k.same.at_last ∙ ap (last_stored t) same))
+      (ap status_at_end (sym k.same.refused ∙ ap any_line_refused same))
 
-  report_is : HaveSameRun t (run hubs t 0 lines) (scripted.run scripts.hub_answer t 0 lines) → report hub_script script ≡ Some (text_of steps ++ hub_state_text (last t steps), status_at_end (any_refused steps))
+  report_is : HaveSameRun t (run_in_store hubs t 0 lines) (scripted.run_lines scripts.hub_answer t 0 lines) → report hub_script script ≡ Some (text_of steps ++ hub_state_text (last_stored t steps), status_at_end (any_line_refused steps))
   report_is (inl none) = let never : None ≡ Some steps = sym none.0 ∙ is_run in absurd cc
   report_is (inr k) = same_report k
 
@@ -79,13 +79,13 @@ module _ {S K D : Type 0} (source : OfSource.Ghosts S) (sink : OfSink.Ghosts K) 
     bytes = c.bytes;
     took = c.consumes;
     read = c.at_end;
-    text = text_of c.steps ++ hub_state_text (last (first_state made.forms) c.steps);
+    text = text_of c.steps ++ hub_state_text (last_stored (first_state made.forms) c.steps);
     gave = c.given;
     is_report = λ none script part lines.
         report_is script made.forms (lines_of c.bytes) c.steps (ap lenses_of part ∙ made.accepted.has_lenses) lines c.is_run (hub_runs_alike (first_state made.forms) 0 (lines_of c.bytes) none)
-        ∙ ap (λ (y : Status). Some (text_of c.steps ++ hub_state_text (last (first_state made.forms) c.steps), y)) (sym c.ended);
+        ∙ ap (λ (y : Status). Some (text_of c.steps ++ hub_state_text (last_stored (first_state made.forms) c.steps), y)) (sym c.ended);
     payloads = (store.payloads ++ []) ++ kept_of c.steps;
-    state = last (first_state made.forms) c.steps;
+    state = last_stored (first_state made.forms) c.steps;
     answers = text_of c.steps;
     is_text = refl;
     holds = c.kept;

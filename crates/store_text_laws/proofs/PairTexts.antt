@@ -6,7 +6,7 @@ use Rattle.command_ends.specs.declared.status.Status.{Status}
 use Rattle.edit_journal.specs.Pieces.{lines_of}
 use Rattle.edit_session.specs.Run as journals
 use Rattle.editlens_main.specs.Applies.{Applies}
-use Rattle.editlens_main.specs.Stores.{Store}
+use Rattle.editlens_main.specs.Stores.{PairStore}
 use Rattle.gate_log.specs.LogOnDisk.{HoldsPayloads}
 use Rattle.lens_io.specs.declared.disk.Disk as OfDisk
 use Rattle.lens_io.specs.declared.sink.Sink as OfSink
@@ -17,7 +17,7 @@ use Rattle.script_input.specs.Lines.{program_part}
 use Rattle.store_new.specs.Init.{Starts, program_payload}
 use Rattle.store_run.specs.Devices.{Devices}
 use Rattle.store_run.specs.ApplyCall.{ContinuesCall}
-use Rattle.store_run.specs.StoreRuns.{kept_of, last, text_of}
+use Rattle.store_run.specs.StoreRuns.{kept_of, last_stored, text_of}
 use Rattle.store_session.specs.Journals.{IsJournalRun}
 use Rattle.store_session.specs.SessionStates.{session_state}
 use Rattle.store_session.specs.StoredStates.{StoredState, opened_as, state_text, state_with}
@@ -33,7 +33,7 @@ module _ {S K D : Type 0} (source : OfSource.Ghosts S) (sink : OfSink.Ghosts K) 
   abbrev start : StoredState
   start = state_with made.form (triple_at_first made.form)
 
-  abbrev store : Store disk old2.disk
+  abbrev store : PairStore disk old2.disk
   store = record {
     bytes = image;
     told = told;
@@ -50,10 +50,10 @@ module _ {S K D : Type 0} (source : OfSource.Ghosts S) (sink : OfSink.Ghosts K) 
         let sound = stored_sound store.payloads start None store.stands in
         runs_alike (λ (s : StoreSession). session_state s.session) start 0 (lines_of c.bytes) c.steps sound.0 sound.1 c.is_run
 
-    text_is : text_of c.steps ++ state_text (last start c.steps) ≡ text_from made.form (triple_at_first made.form) journal_run.journal
+    text_is : text_of c.steps ++ state_text (last_stored start c.steps) ≡ text_from made.form (triple_at_first made.form) journal_run.journal
     text_is =
         let j = journal_run in
-        ap (λ text. text ++ state_text (last start c.steps)) j.text ∙ ap (λ (u : StoredState). answer_lines 1 j.journal ++ state_text u) j.at_last
+        ap (λ text. text ++ state_text (last_stored start c.steps)) j.text ∙ ap (λ (u : StoredState). answer_lines 1 j.journal ++ state_text u) j.at_last
 
     answers : AnswersAsRun source sink disk old2 new2 status (program_part made.bytes)
     answers =
@@ -62,9 +62,9 @@ module _ {S K D : Type 0} (source : OfSource.Ghosts S) (sink : OfSink.Ghosts K) 
           bytes = c.bytes;
           took = c.consumes;
           read = c.at_end;
-          text = text_of c.steps ++ state_text (last start c.steps);
+          text = text_of c.steps ++ state_text (last_stored start c.steps);
           gave = c.given;
-          is_report = λ script part lines. run_is_report script (text_of c.steps ++ state_text (last start c.steps)) status (record {
+          is_report = λ script part lines. run_is_report script (text_of c.steps ++ state_text (last_stored start c.steps)) status (record {
             form = made.form;
             lens = ap lens_of part ∙ made.accepted.has_lens;
             steps = j.journal;

@@ -11,7 +11,7 @@ use Rattle.hub_run.specs.Runs.{HubItem, HubState}
 use Rattle.hub_session.specs.HubAnswers.{hub_change_text}
 use Rattle.script_run.specs.LineRuns as lines
 use Rattle.script_run.specs.declared.line_answers.Answer.{Answer}
-use Rattle.store_run.specs.StoreRuns.{any_refused, last, text_of}
+use Rattle.store_run.specs.StoreRuns.{any_line_refused, last_stored, text_of}
 use Rattle.store_run.specs.declared.session.StoredAnswer.{StoredAnswer}
 
 -- ---- lines that are no groups
@@ -45,9 +45,9 @@ stored_as item made = (made.0, record { line = made.1.line; payload = edit_paylo
 -- an item alike and come to the same state.
 pub record AreSameAnswers (t : HubState) (steps : List (HubState × StoredAnswer))
     (others : List (HubState × Answer)) : Type 0 where
-  pub text : text_of steps ≡ lines.answer_lines others
-  pub refused : any_refused steps ≡ lines.any_refused others
-  pub at_last : last t steps ≡ lines.last t others
+  pub text : text_of steps ≡ lines.answers_text others
+  pub refused : any_line_refused steps ≡ lines.any_answer_refused others
+  pub at_last : last_stored t steps ≡ lines.last_state t others
 
 -- both runs come to their end, by the same answers
 pub record HaveSameAnswers (t : HubState) (run : Option (List (HubState × StoredAnswer)))

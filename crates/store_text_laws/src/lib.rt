@@ -16,10 +16,10 @@ ghost use Rattle.hub_run.specs.Runs.{HubState, hub_answer as script_answer};
 ghost use Rattle.hub_session.specs.HubAnswers.{stored_hub_answer as stored_answer};
 ghost use Rattle.hub_session.specs.contracts.instance.HubSessionStoredSession.TheImpl.{ghosts as hubs};
 ghost use Rattle.script_input.specs.Lines.{program_part};
-ghost use Rattle.script_run.specs.LineRuns.{run as script_run};
+ghost use Rattle.script_run.specs.LineRuns.{run_lines as script_run};
 ghost use Rattle.store_new.specs.Init.{Starts};
 ghost use Rattle.store_run.specs.Devices.{Devices};
-ghost use Rattle.store_run.specs.StoreRuns.{run};
+ghost use Rattle.store_run.specs.StoreRuns.{run_in_store};
 ghost use Rattle.store_text_laws.specs.HubsAlike.{HasNoGroup, HaveSameRun, is_group, stored_as};
 ghost use Rattle.store_text_laws.specs.StoreTexts.{AnswersAsHub, AnswersAsRun};
 
@@ -54,7 +54,7 @@ pub fn a_stored_hub_answers_as_hub()
     ensures line { (t : HubState) (n : ℕ) (line : Line) → is_group line ≡ false
         → stored_answer t n line ≡ option_map (stored_as (edit_of_line line)) (script_answer t n line) }
     ensures run { (t : HubState) (n : ℕ) (lines : List Line) → HasNoGroup lines
-        → HaveSameRun t (run hubs t n lines) (script_run script_answer t n lines) }
+        → HaveSameRun t (run_in_store hubs t n lines) (script_run script_answer t n lines) }
 {}
 
 /// `init` of `edithub` over the programs of the views and then `apply` of a journal without groups write what `hub`

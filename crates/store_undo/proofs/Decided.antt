@@ -16,7 +16,7 @@ use Rattle.store_run.specs.declared.refusals.StoreRefusal.TheVariants.{NothingTo
 use Rattle.store_session.specs.ConsistencyTest.{is_consistent}
 use Rattle.store_session.specs.Stands.{Standing, step_of, after_step, after_triple, triple_of, is_too_new, after_record, going_on, after_payloads, at_start, from_opening, stands}
 use Rattle.store_undo.specs.UndoRecords.{new_records, version_then, TakesBack}
-use Rattle.store_undo.specs.Undoing.{Undoing, undoing_from, undoing_of, undoing, last_changes, payloads_before, refusal_of, refusal_of_log, refusal_in, undo_refusal}
+use Rattle.store_undo.specs.Undoing.{Undoing, undoing_from, undoing_of, undoing, last_changes, payloads_before, refusal_of, undo_refusal_of_log, undo_refusal_in, undo_refusal}
 use Rattle.store_undo.proofs.Earlier.{stood_then}
 use Rattle.store_undo.proofs.UndoRefusals.{same_undoing}
 
@@ -92,12 +92,12 @@ undone_unless count held none = undone_standing count held (stands held) refl no
 abbrev pub HoldsAnUndoing : ℕ → List ℕ → Type 0
 HoldsAnUndoing count bytes = (held : List (List ℕ)) × (u : Undoing) × HoldsPayloads held bytes × (undoing count held ≡ Some u)
 
-undone_log : (count : ℕ) (bytes : List ℕ) (c : LogContent) → log_of bytes ≡ c → refusal_of_log count c ≡ None → HoldsAnUndoing count bytes
+undone_log : (count : ℕ) (bytes : List ℕ) (c : LogContent) → log_of bytes ≡ c → undo_refusal_of_log count c ≡ None → HoldsAnUndoing count bytes
 undone_log count bytes (payloads held) is none = let u = undone_unless count held none in (held, u.0, is, u.1)
 undone_log count bytes not_a_log is none = cc
 undone_log count bytes (bad_record number) is none = cc
 
-pub undone_in : (count : ℕ) (bytes : List ℕ) → refusal_in count bytes ≡ None → HoldsAnUndoing count bytes
+pub undone_in : (count : ℕ) (bytes : List ℕ) → undo_refusal_in count bytes ≡ None → HoldsAnUndoing count bytes
 undone_in count bytes none = undone_log count bytes (log_of bytes) refl none
 
 -- ---- refused

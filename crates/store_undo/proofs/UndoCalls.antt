@@ -8,7 +8,7 @@ use Rattle.gate_log.specs.LogOnDisk.{LogState, HoldsPayloads}
 use Rattle.edit_module.specs.Changes.{ChangeTree}
 use Rattle.edit_session.specs.Step.{TripleTree}
 use Rattle.store_records.specs.declared.record_fault.RecordFault.{RecordFault}
-use Rattle.store_run.specs.Effects.{HoldsFirst, StandsOn, Stops}
+use Rattle.store_run.specs.Effects.{HoldsFirst, StandsOn, StopsStoring}
 use Rattle.store_run.specs.Refusals.{IsUnwritten, IsOpening, FailsUnopened}
 use Rattle.store_run.specs.StoreEnds.{StoreEnds, StoresBehind}
 use Rattle.command_ends.specs.declared.status.Status.{Status}
@@ -132,8 +132,8 @@ module _ {K D : Type 0} (sink : OfSink.Ghosts K) (disk : OfDisk.Ghosts D)
     }
 
     stopped_safe : (d1 : D) (l l' : LogState) (k1 : K) (stop : Stop) → LeavesOnly disk d d1 (disk.images d) → TakesBack before u → StandsOn disk d1 l before
-        → Stops sink disk (k, d1, l) (k1, d', l') stop [] [] [] version
-        ⊎ Stops sink disk (k, d1, l) (k1, d', l') stop [] (undo_text u) version (undo_snapshot_text u ∷ [])
+        → StopsStoring sink disk (k, d1, l) (k1, d', l') stop [] [] [] version
+        ⊎ StopsStoring sink disk (k, d1, l) (k1, d', l') stop [] (undo_text u) version (undo_snapshot_text u ∷ [])
         → IsSafeUndo disk d d' before u
     stopped_safe d1 l l' k1 stop reached back st (inl s) =
         safe_of d1 reached back

@@ -5,7 +5,7 @@ use Rattle.gate_log.specs.LogBytes.{records_length, closed_gate}
 use Rattle.lens_io.specs.declared.disk.Disk as OfDisk
 use Rattle.lens_io.specs.declared.sink.Sink as OfSink
 use Rattle.gate_log.specs.LogOnDisk.{LogState, HoldsPayloads}
-use Rattle.store_run.specs.Effects.{IsOver, StandsOn, Stops}
+use Rattle.store_run.specs.Effects.{IsOver, StandsOn, StopsStoring}
 use Rattle.store_run.specs.ApplyEnds.{status_of}
 use Rattle.store_run.specs.Refusals.{IsUnwritten, IsOpening, FailsUnopened}
 use Rattle.store_run.specs.Rooms.{most_bytes, HasNoRoom}
@@ -85,8 +85,8 @@ module _ {K D : Type 0} (sink : OfSink.Ghosts K) (disk : OfDisk.Ghosts D) (befor
   -- the call was stopped at the version record, or at the snapshot
   abbrev StopsAt : K → D → LogState → K → D → LogState → Stop → Type 0
   StopsAt k d l k' d' l' stop =
-      Stops sink disk (k, d, l) (k', d', l') stop [] [] [] version
-      ⊎ Stops sink disk (k, d, l) (k', d', l') stop [] (undo_text u) version last
+      StopsStoring sink disk (k, d, l) (k', d', l') stop [] [] [] version
+      ⊎ StopsStoring sink disk (k, d, l) (k', d', l') stop [] (undo_text u) version last
 
   -- ---- causes
 

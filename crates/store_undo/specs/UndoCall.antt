@@ -1,6 +1,6 @@
 -- The whole command `undo`: what it comes to, and what a crash leaves of it.
--- Read it from the end: `IsUntouched`, `IsSafeUndo`, `UndoesCall`, then `IsUndoneImage`.
-use Rattle.std.specs.Prelude.{◌≡◌, ◌⊎◌, ℕ, List, [], ◌++◌, option_to_list, Ok, IfSome}
+-- Read it from the end: `IsSafeUndo`, `UndoesCall`, then `IsUndoneImage`.
+use Rattle.std.specs.Prelude.{◌≡◌, ◌⊎◌, ℕ, List, ◌++◌, option_to_list, Ok, IfSome}
 use Rattle.lens_io.specs.Calls.{Gave}
 use Rattle.lens_io.specs.DiskRuns.{LeavesOnly}
 use Rattle.lens_io.specs.declared.disk.Disk as OfDisk
@@ -41,12 +41,6 @@ module _ {K D : Type 0} (sink : OfSink.Ghosts K) (disk : OfDisk.Ghosts D) (old n
     pub given : Gave sink old.0 new.0 (undo_text u)
     pub kept : IfSome (disk.content new.1) (HoldsPayloads (before ++ new_records u))
     pub takes_back : TakesBack before u
-
-  -- The sync of the opening failed. Nothing was written, and there is no image that was not possible before.
-  pub record IsUntouched : Type 0 where
-    pub given : Gave sink old.0 new.0 []
-    pub only : (c : List ℕ) → disk.images new.1 c → disk.images old.1 c
-    pub moments : LeavesOnly disk old.1 new.1 (disk.images old.1)
 
 module _ {D : Type 0} (disk : OfDisk.Ghosts D) (old new : D) where
   -- An image that a crash now may leave represents the triple from before the call, or with the snapshot for the one

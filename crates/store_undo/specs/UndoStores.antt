@@ -3,7 +3,7 @@ use Rattle.std.specs.Prelude.{◌≡◌, ℕ, List, Some}
 use Rattle.lens_io.specs.declared.disk.Disk as OfDisk
 use Rattle.gate_log.specs.LogOnDisk.{HoldsPayloads}
 use Rattle.store_run.specs.declared.refusals.StoreRefusal.{StoreRefusal}
-use Rattle.store_undo.specs.Undoing.{Undoing, undoing, refusal_in}
+use Rattle.store_undo.specs.Undoing.{Undoing, undoing, undo_refusal_in}
 
 module _ {D : Type 0} (disk : OfDisk.Ghosts D) (count : ℕ) (d : D) where
   -- The bytes of the disk are known, and are a log of these payloads, whose last changes are undone so.
@@ -20,4 +20,4 @@ module _ {D : Type 0} (disk : OfDisk.Ghosts D) (count : ℕ) (d : D) where
     pub bytes : List ℕ
     pub told : disk.content d ≡ Some bytes
     pub reason : StoreRefusal
-    pub refused : refusal_in count bytes ≡ Some reason
+    pub refused : undo_refusal_in count bytes ≡ Some reason

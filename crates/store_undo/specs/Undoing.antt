@@ -1,5 +1,5 @@
 -- What undoing the last changes of a store comes to, or why the store is refused.
--- Read it from the end: `refusal_in`, `undo_refusal`, `undoing`, then `last_changes`.
+-- Read it from the end: `undo_refusal_in`, `undo_refusal`, `undoing`, then `last_changes`.
 use Rattle.std.specs.Prelude.{ℕ, ◌-◌, List, [], ◌∷◌, length, take, drop, nat_lt, if◌then◌else◌, Option, Some, None}
 use Rattle.std.specs.Prelude.{option_map, option_and_then, Result, Ok, Err}
 use Rattle.gate_log.specs.LogBytes.{LogContent, payloads, not_a_log, bad_record, log_of}
@@ -79,11 +79,11 @@ refusal_of (Err reopening.NoMemory) changes = None
 abbrev pub undo_refusal : ℕ → List (List ℕ) → Option StoreRefusal
 undo_refusal count held = refusal_of (stands held) (last_changes count held)
 
-abbrev pub refusal_of_log : ℕ → LogContent → Option StoreRefusal
-refusal_of_log count (payloads held) = undo_refusal count held
-refusal_of_log count not_a_log = Some NotALog
-refusal_of_log count (bad_record number) = Some (BadRecord number)
+abbrev pub undo_refusal_of_log : ℕ → LogContent → Option StoreRefusal
+undo_refusal_of_log count (payloads held) = undo_refusal count held
+undo_refusal_of_log count not_a_log = Some NotALog
+undo_refusal_of_log count (bad_record number) = Some (BadRecord number)
 
 -- why these bytes are refused, if they are
-abbrev pub refusal_in : ℕ → List ℕ → Option StoreRefusal
-refusal_in count bytes = refusal_of_log count (log_of bytes)
+abbrev pub undo_refusal_in : ℕ → List ℕ → Option StoreRefusal
+undo_refusal_in count bytes = undo_refusal_of_log count (log_of bytes)

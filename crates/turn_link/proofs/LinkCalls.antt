@@ -19,7 +19,7 @@ use Rattle.turn_link.specs.declared.batch.Packet.{Packet}
 use Rattle.turn_link.specs.Views.{batch_tree, packet_tree, told_of}
 use Rattle.turn_link.specs.Turns.{BatchTree, is_turn, TurnRefusal, not_turn, unfit, no_batch, IsTurnRefusal}
 use Rattle.turn_link.specs.Sites.{LeftTree, RightTree, drafted, joining, edited, left_drafted, right_drafted, left_start, right_start, left_edit, right_edit, left_seal, right_seal, left_receive, right_receive, left_restart, right_restart}
-use Rattle.turn_link.specs.Links.{EventTree, edit, seal, send, deliver, restart, LinkTree, ToldTree, told_draft, sealed, packet, taken, stale, restarted, PacketTree, last_batch, left_of, right_of, happens}
+use Rattle.turn_link.specs.Links.{EventTree, edit, seal, send, deliver, restart, LinkTree, ToldTree, told_draft, sealed, packet, taken, stale, restarted, PacketTree, last_batch, left_site_of, right_site_of, happens}
 use Rattle.turn_link.specs.Laws.{AreSites}
 use Rattle.turn_link.specs.LinkViews.{link_of, IsLink, IsLinkOf, IsLinkRefusal}
 use Rattle.turn_link.proofs.LinkSites.{edits_left, edits_right, refuses_edit_left, refuses_edit_right, restarts_left, restarts_right, sends, no_sending, seals_left_site, seals_right_site, refuses_seal_left, refuses_seal_right, receives_left, receives_right, never_refused_left, never_refused_right}
@@ -34,21 +34,21 @@ module _ (holds : DocTree → CompTree → DocTree → Type 0) (left : TyTree) (
   link_is : (s : LinkTree) (l : LeftTree) (r : RightTree) → AreSites holds left right start carried s l r → s ≡ link_of s.made l r s.packets
   link_is s l r a =
       let k = a.linked in
-      let of_left : left_of left right start carried s k.left_draft.triple ≡ l = same_value (ap (option_map (left_of left right start carried s)) k.left_draft.at_number) a.left_is in
-      let of_right : right_of left right start carried s k.right_draft.triple ≡ r = same_value (ap (option_map (right_of left right start carried s)) k.right_draft.at_number) a.right_is in
-      ap (λ l. link_of s.made l (right_of left right start carried s k.right_draft.triple) s.packets) of_left ∙ ap (λ r. link_of s.made l r s.packets) of_right
+      let of_left : left_site_of left right start carried s k.left_draft.triple ≡ l = same_value (ap (option_map (left_site_of left right start carried s)) k.left_draft.at_number) a.left_is in
+      let of_right : right_site_of left right start carried s k.right_draft.triple ≡ r = same_value (ap (option_map (right_site_of left right start carried s)) k.right_draft.at_number) a.right_is in
+      ap (λ l. link_of s.made l (right_site_of left right start carried s k.right_draft.triple) s.packets) of_left ∙ ap (λ r. link_of s.made l r s.packets) of_right
 
   -- the last batches of the sites
   last_left : (s : LinkTree) (l : LeftTree) (r : RightTree) → AreSites holds left right start carried s l r → last_batch left right start carried Left s.made s.left_number ≡ l.last
   last_left s l r a =
       let k = a.linked in
-      let of_left : left_of left right start carried s k.left_draft.triple ≡ l = same_value (ap (option_map (left_of left right start carried s)) k.left_draft.at_number) a.left_is in
+      let of_left : left_site_of left right start carried s k.left_draft.triple ≡ l = same_value (ap (option_map (left_site_of left right start carried s)) k.left_draft.at_number) a.left_is in
       ap (λ (l : LeftTree). l.last) of_left
 
   last_right : (s : LinkTree) (l : LeftTree) (r : RightTree) → AreSites holds left right start carried s l r → last_batch left right start carried Right s.made s.right_number ≡ r.last
   last_right s l r a =
       let k = a.linked in
-      let of_right : right_of left right start carried s k.right_draft.triple ≡ r = same_value (ap (option_map (right_of left right start carried s)) k.right_draft.at_number) a.right_is in
+      let of_right : right_site_of left right start carried s k.right_draft.triple ≡ r = same_value (ap (option_map (right_site_of left right start carried s)) k.right_draft.at_number) a.right_is in
       ap (λ (r : RightTree). r.last) of_right
 
   -- an event happened: the link after it, and what is told

@@ -13,7 +13,7 @@ use Rattle.edit_session.specs.Step.{first}
 use Rattle.turn_link.specs.declared.fault.Received.TheVariants.{Taken, Stale}
 use Rattle.turn_link.specs.Turns.{BatchTree, is_turn, TurnRefusal, not_turn, last_number, unfit, no_packet}
 use Rattle.turn_link.specs.Sites.{LeftTree, RightTree, left_start, right_start, left_edit, right_edit, left_seal, right_seal}
-use Rattle.turn_link.specs.Links.{EventTree, edit, seal, send, deliver, restart, LinkTree, ToldTree, sealed, PacketTree, link_start, number_on, with_entry, batch_at, last_batch, left_of, right_of, naming, happens, link_after, after_events}
+use Rattle.turn_link.specs.Links.{EventTree, edit, seal, send, deliver, restart, LinkTree, ToldTree, sealed, PacketTree, link_start, number_on, with_entry, batch_at, last_batch, left_site_of, right_site_of, naming, happens, link_after, after_events}
 use Rattle.turn_link.specs.Laws.{IsLinked, AreSites}
 use Rattle.turn_link.specs.Runs.{Answers, Fits, LinksStayInTurns}
 use Rattle.turn_link.proofs.Numbers.{at_most}
@@ -34,11 +34,11 @@ module _ (holds : DocTree → CompTree → DocTree → Type 0) (left : TyTree) (
   Sites = AreSites holds left right start carried
 
   -- a link has its two sites
-  own_sites : (s : LinkTree) (k : Linked s) → Sites s (left_of left right start carried s k.left_draft.triple) (right_of left right start carried s k.right_draft.triple)
+  own_sites : (s : LinkTree) (k : Linked s) → Sites s (left_site_of left right start carried s k.left_draft.triple) (right_site_of left right start carried s k.right_draft.triple)
   own_sites s k = record {
     linked = k;
-    left_is = ap (option_map (left_of left right start carried s)) k.left_draft.at_number;
-    right_is = ap (option_map (right_of left right start carried s)) k.right_draft.at_number;
+    left_is = ap (option_map (left_site_of left right start carried s)) k.left_draft.at_number;
+    right_is = ap (option_map (right_site_of left right start carried s)) k.right_draft.at_number;
   }
 
   -- ---- the start
@@ -85,11 +85,11 @@ module _ (holds : DocTree → CompTree → DocTree → Type 0) (left : TyTree) (
   goes-packet : (s : LinkTree) (k : Linked s) (p : ℕ) (to : Side) (b : BatchTree) → slice_get s.packets p ≡ Some (record { to = to; batch = b }) → Goes s (deliver p)
   goes-packet s k p Left b is =
       let a = own_sites s k in
-      let t = receives_left-of holds left right start carried s k (right_of left right start carried s k.right_draft.triple) a.right_is p b is in
+      let t = receives_left-of holds left right start carried s k (right_site_of left right start carried s k.right_draft.triple) a.right_is p b is in
       record { answer = Ok (received holds left right start carried Left b.number s t.1); happened = t.3.happened; linked = t.3.sites.linked }
   goes-packet s k p Right b is =
       let a = own_sites s k in
-      let t = receives_right-of holds left right start carried s k (left_of left right start carried s k.left_draft.triple) a.left_is p b is in
+      let t = receives_right-of holds left right start carried s k (left_site_of left right start carried s k.left_draft.triple) a.left_is p b is in
       record { answer = Ok (received holds left right start carried Right b.number s t.1); happened = t.3.happened; linked = t.3.sites.linked }
 
   goes-deliver : (s : LinkTree) (k : Linked s) (p : ℕ) (o : Option PacketTree) → slice_get s.packets p ≡ o → Goes s (deliver p)
@@ -102,8 +102,8 @@ module _ (holds : DocTree → CompTree → DocTree → Type 0) (left : TyTree) (
       → ((b.number ≤ number_on to s) × Answers holds left right start carried to s b Stale) ⊎ ((b.number ≡ number_on to s + 1) × Answers holds left right start carried to s b Taken)
   delivers-of s k p Left b is =
       let of = k.turns.packets p (record { to = Left; batch = b }) is in
-      let l = left_of left right start carried s k.left_draft.triple in
-      let shows = ap (option_map (left_of left right start carried s)) k.left_draft.at_number in
+      let l = left_site_of left right start carried s k.left_draft.triple in
+      let shows = ap (option_map (left_site_of left right start carried s)) k.left_draft.at_number in
       elim (nat_le b.number s.left_number) as (λ v. nat_le b.number s.left_number ≡ v
       → ((b.number ≤ s.left_number) × Answers holds left right start carried Left s b Stale) ⊎ ((b.number ≡ s.left_number + 1) × Answers holds left right start carried Left s b Taken)) [
         | true ↦ λ old. inl (leb-true b.number s.left_number old, (l, l, shows, rw old refl))
@@ -114,8 +114,8 @@ module _ (holds : DocTree → CompTree → DocTree → Type 0) (left : TyTree) (
       ] refl
   delivers-of s k p Right b is =
       let of = k.turns.packets p (record { to = Right; batch = b }) is in
-      let r = right_of left right start carried s k.right_draft.triple in
-      let shows = ap (option_map (right_of left right start carried s)) k.right_draft.at_number in
+      let r = right_site_of left right start carried s k.right_draft.triple in
+      let shows = ap (option_map (right_site_of left right start carried s)) k.right_draft.at_number in
       elim (nat_le b.number s.right_number) as (λ v. nat_le b.number s.right_number ≡ v
       → ((b.number ≤ s.right_number) × Answers holds left right start carried Right s b Stale) ⊎ ((b.number ≡ s.right_number + 1) × Answers holds left right start carried Right s b Taken)) [
         | true ↦ λ old. inl (leb-true b.number s.right_number old, (r, r, shows, rw old refl))

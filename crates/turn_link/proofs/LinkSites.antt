@@ -16,7 +16,7 @@ use Rattle.turn_link.specs.declared.fault.Received.{Received}
 use Rattle.turn_link.specs.declared.fault.Received.TheVariants.{Taken, Stale}
 use Rattle.turn_link.specs.Turns.{BatchTree, is_turn, last_made, TurnRefusal, not_turn, last_number, no_batch}
 use Rattle.turn_link.specs.Sites.{LeftTree, RightTree, drafted, joining, edited, left_drafted, right_drafted, left_edit, right_edit, next_batch, sealing, left_sealed, right_sealed, left_seal, right_seal, left_receive, right_receive, left_restart, right_restart}
-use Rattle.turn_link.specs.Links.{LinkTree, ToldTree, edit, seal, send, deliver, told_draft, sealed, packet, taken, stale, number_on, with_entry, with_number, with_draft, with_packet, triple_at, batch_word, batch_at, last_batch, left_of, right_of, left_site, right_site, happens}
+use Rattle.turn_link.specs.Links.{LinkTree, ToldTree, edit, seal, send, deliver, told_draft, sealed, packet, taken, stale, number_on, with_entry, with_number, with_draft, with_packet, triple_at, batch_word, batch_at, last_batch, left_site_of, right_site_of, left_site, right_site, happens}
 use Rattle.turn_link.specs.Laws.{IsDraft, IsLinked, AreSites}
 use Rattle.turn_link.proofs.Numbers.{positive, at_most, not_at_most, last_made-le, last_made-sealed}
 use Rattle.turn_link.proofs.Histories.{triple_at-front, last_batch-front, last_batch-taken}
@@ -83,15 +83,15 @@ module _ (holds : DocTree → CompTree → DocTree → Type 0) (left : TyTree) (
   Gives s r o = o ≡ Some r
 
   left_is_of : (s : LinkTree) (l : LeftTree) (k : Linked s) → left_site left right start carried s ≡ Some l
-      → left_of left right start carried s k.left_draft.triple ≡ l
+      → left_site_of left right start carried s k.left_draft.triple ≡ l
   left_is_of s l k is =
-      let of : left_site left right start carried s ≡ Some (left_of left right start carried s k.left_draft.triple) = ap (option_map (left_of left right start carried s)) k.left_draft.at_number in
+      let of : left_site left right start carried s ≡ Some (left_site_of left right start carried s k.left_draft.triple) = ap (option_map (left_site_of left right start carried s)) k.left_draft.at_number in
       cc
 
   right_is_of : (s : LinkTree) (r : RightTree) (k : Linked s) → right_site left right start carried s ≡ Some r
-      → right_of left right start carried s k.right_draft.triple ≡ r
+      → right_site_of left right start carried s k.right_draft.triple ≡ r
   right_is_of s r k is =
-      let of : right_site left right start carried s ≡ Some (right_of left right start carried s k.right_draft.triple) = ap (option_map (right_of left right start carried s)) k.right_draft.at_number in
+      let of : right_site left right start carried s ≡ Some (right_site_of left right start carried s k.right_draft.triple) = ap (option_map (right_site_of left right start carried s)) k.right_draft.at_number in
       cc
 
   -- ---- edit
@@ -102,7 +102,7 @@ module _ (holds : DocTree → CompTree → DocTree → Type 0) (left : TyTree) (
 
   edits_left-of : (s : LinkTree) (k : Linked s) (r : RightTree) → right_site left right start carried s ≡ Some r → (w d : WordTree)
       → edited Left left s.left_number k.left_draft.triple.left s.left_draft w ≡ Ok d
-      → EditsLeft s w (record (left_of left right start carried s k.left_draft.triple) { draft = d }) r
+      → EditsLeft s w (record (left_site_of left right start carried s k.left_draft.triple) { draft = d }) r
   edits_left-of s k r right_is w d is =
       let at = k.left_draft.at_number in
       let j = joins Left left s.left_number k.left_draft.triple.left s.left_draft w d k.left_draft.document k.left_draft.acts is in
@@ -119,9 +119,9 @@ module _ (holds : DocTree → CompTree → DocTree → Type 0) (left : TyTree) (
 
   left_drafted_ok : (s : LinkTree) (k : Linked s) (r : RightTree) → right_site left right start carried s ≡ Some r → (w : WordTree) (l' : LeftTree) (answer : Result WordTree TurnRefusal)
       → edited Left left s.left_number k.left_draft.triple.left s.left_draft w ≡ answer
-      → left_drafted (left_of left right start carried s k.left_draft.triple) answer ≡ Ok l' → EditsLeft s w l' r
+      → left_drafted (left_site_of left right start carried s k.left_draft.triple) answer ≡ Ok l' → EditsLeft s w l' r
   left_drafted_ok s k r right_is w l' (Ok d) is made =
-      let same : record (left_of left right start carried s k.left_draft.triple) { draft = d } ≡ l' = cc in
+      let same : record (left_site_of left right start carried s k.left_draft.triple) { draft = d } ≡ l' = cc in
       subst (λ l. EditsLeft s w l r) same (edits_left-of s k r right_is w d is)
   left_drafted_ok s k r right_is w l' (Err why) is made = absurd cc
 
@@ -132,7 +132,7 @@ module _ (holds : DocTree → CompTree → DocTree → Type 0) (left : TyTree) (
 
   left_drafted_err : (s : LinkTree) (k : Linked s) (w : WordTree) (why : TurnRefusal) (answer : Result WordTree TurnRefusal)
       → edited Left left s.left_number k.left_draft.triple.left s.left_draft w ≡ answer
-      → left_drafted (left_of left right start carried s k.left_draft.triple) answer ≡ Err why → happens left right start carried s (edit Left w) ≡ Some (Err why)
+      → left_drafted (left_site_of left right start carried s k.left_draft.triple) answer ≡ Err why → happens left right start carried s (edit Left w) ≡ Some (Err why)
   left_drafted_err s k w why (Ok d) is made = absurd cc
   left_drafted_err s k w why (Err cause) is made =
       let at = k.left_draft.at_number in
@@ -151,7 +151,7 @@ module _ (holds : DocTree → CompTree → DocTree → Type 0) (left : TyTree) (
 
   edits_right-of : (s : LinkTree) (k : Linked s) (l : LeftTree) → left_site left right start carried s ≡ Some l → (w d : WordTree)
       → edited Right right s.right_number k.right_draft.triple.right s.right_draft w ≡ Ok d
-      → EditsRight s w l (record (right_of left right start carried s k.right_draft.triple) { draft = d })
+      → EditsRight s w l (record (right_site_of left right start carried s k.right_draft.triple) { draft = d })
   edits_right-of s k l left_is w d is =
       let at = k.right_draft.at_number in
       let j = joins Right right s.right_number k.right_draft.triple.right s.right_draft w d k.right_draft.document k.right_draft.acts is in
@@ -168,9 +168,9 @@ module _ (holds : DocTree → CompTree → DocTree → Type 0) (left : TyTree) (
 
   right_drafted_ok : (s : LinkTree) (k : Linked s) (l : LeftTree) → left_site left right start carried s ≡ Some l → (w : WordTree) (r' : RightTree) (answer : Result WordTree TurnRefusal)
       → edited Right right s.right_number k.right_draft.triple.right s.right_draft w ≡ answer
-      → right_drafted (right_of left right start carried s k.right_draft.triple) answer ≡ Ok r' → EditsRight s w l r'
+      → right_drafted (right_site_of left right start carried s k.right_draft.triple) answer ≡ Ok r' → EditsRight s w l r'
   right_drafted_ok s k l left_is w r' (Ok d) is made =
-      let same : record (right_of left right start carried s k.right_draft.triple) { draft = d } ≡ r' = cc in
+      let same : record (right_site_of left right start carried s k.right_draft.triple) { draft = d } ≡ r' = cc in
       subst (λ r. EditsRight s w l r) same (edits_right-of s k l left_is w d is)
   right_drafted_ok s k l left_is w r' (Err why) is made = absurd cc
 
@@ -181,7 +181,7 @@ module _ (holds : DocTree → CompTree → DocTree → Type 0) (left : TyTree) (
 
   right_drafted_err : (s : LinkTree) (k : Linked s) (w : WordTree) (why : TurnRefusal) (answer : Result WordTree TurnRefusal)
       → edited Right right s.right_number k.right_draft.triple.right s.right_draft w ≡ answer
-      → right_drafted (right_of left right start carried s k.right_draft.triple) answer ≡ Err why → happens left right start carried s (edit Right w) ≡ Some (Err why)
+      → right_drafted (right_site_of left right start carried s k.right_draft.triple) answer ≡ Err why → happens left right start carried s (edit Right w) ≡ Some (Err why)
   right_drafted_err s k w why (Ok d) is made = absurd cc
   right_drafted_err s k w why (Err cause) is made =
       let at = k.right_draft.at_number in
@@ -299,7 +299,7 @@ module _ (holds : DocTree → CompTree → DocTree → Type 0) (left : TyTree) (
   module _ (from_left : WordsCarry holds left right Left (carried Left)) (from_right : WordsCarry holds right left Right (carried Right)) where
     -- what the left site's draft is sealed to
     sealed_left : (s : LinkTree) (k : Linked s) → (q : SealsLeft holds left right start carried s k.left_draft.triple)
-        → left_sealed (left_of left right start carried s k.left_draft.triple) (drafted left k.left_draft.triple.left s.left_draft) (carried Left k.left_draft.triple.comp s.left_draft)
+        → left_sealed (left_site_of left right start carried s k.left_draft.triple) (drafted left k.left_draft.triple.left s.left_draft) (carried Left k.left_draft.triple.comp s.left_draft)
         ≡ Ok (record { number = s.left_number + 1; doc = q.own; comp = q.carried_to.1; draft = no_primitives; last = Some (next_batch s.left_number q.carried_to.0) }, next_batch s.left_number q.carried_to.0)
     sealed_left s k q =
         let after : drafted left k.left_draft.triple.left s.left_draft ≡ q.own = ap (λ r. result_unwrap_or r k.left_draft.triple.left) q.acts in
@@ -325,7 +325,7 @@ module _ (holds : DocTree → CompTree → DocTree → Type 0) (left : TyTree) (
     seals_left_site s l r a l' b made =
         let k = a.linked in
         let of = left_is_of s l k a.left_is in
-        let m = may_seal Left s.left_number (left_sealed (left_of left right start carried s k.left_draft.triple) (drafted left k.left_draft.triple.left s.left_draft) (carried Left k.left_draft.triple.comp s.left_draft)) (l', b)
+        let m = may_seal Left s.left_number (left_sealed (left_site_of left right start carried s k.left_draft.triple) (drafted left k.left_draft.triple.left s.left_draft) (carried Left k.left_draft.triple.comp s.left_draft)) (l', b)
         (subst (λ l. left_seal left carried l ≡ Ok (l', b)) (sym of) made) in
         let q = seals_left holds left right start carried from_left from_right s k m.on in
         let is = sealed_left s k q in
@@ -337,8 +337,8 @@ module _ (holds : DocTree → CompTree → DocTree → Type 0) (left : TyTree) (
     refuses_seal_left s l r a why made =
         let k = a.linked in
         let of = left_is_of s l k a.left_is in
-        let answer = left_sealed (left_of left right start carried s k.left_draft.triple) (drafted left k.left_draft.triple.left s.left_draft) (carried Left k.left_draft.triple.comp s.left_draft) in
-        let made' : left_seal left carried (left_of left right start carried s k.left_draft.triple) ≡ Err why = subst (λ l. left_seal left carried l ≡ Err why) (sym of) made in
+        let answer = left_sealed (left_site_of left right start carried s k.left_draft.triple) (drafted left k.left_draft.triple.left s.left_draft) (carried Left k.left_draft.triple.comp s.left_draft) in
+        let made' : left_seal left carried (left_site_of left right start carried s k.left_draft.triple) ≡ Err why = subst (λ l. left_seal left carried l ≡ Err why) (sym of) made in
         let n = s.left_number in
         elim (is_turn Left n) as (λ v. is_turn Left n ≡ v → (if v then (if nat_eq n (2 ^ 64 - 1) then Err last_number else answer) else Err (not_turn n)) ≡ Err why
         → happens left right start carried s (seal Left) ≡ Some (Err why)) [
@@ -367,7 +367,7 @@ module _ (holds : DocTree → CompTree → DocTree → Type 0) (left : TyTree) (
         }
 
     sealed_right : (s : LinkTree) (k : Linked s) → (q : SealsRight holds left right start carried s k.right_draft.triple)
-        → right_sealed (right_of left right start carried s k.right_draft.triple) (drafted right k.right_draft.triple.right s.right_draft)
+        → right_sealed (right_site_of left right start carried s k.right_draft.triple) (drafted right k.right_draft.triple.right s.right_draft)
         ≡ (record { number = s.right_number + 1; doc = q.own; draft = no_primitives; last = Some (next_batch s.right_number s.right_draft) }, next_batch s.right_number s.right_draft)
     sealed_right s k q =
         let after : drafted right k.right_draft.triple.right s.right_draft ≡ q.own = ap (λ r. result_unwrap_or r k.right_draft.triple.right) q.acts in
@@ -378,7 +378,7 @@ module _ (holds : DocTree → CompTree → DocTree → Type 0) (left : TyTree) (
     seals_right_site s l r a r' b made =
         let k = a.linked in
         let of = right_is_of s r k a.right_is in
-        let m = may_seal Right s.right_number (Ok (right_sealed (right_of left right start carried s k.right_draft.triple) (drafted right k.right_draft.triple.right s.right_draft))) (r', b)
+        let m = may_seal Right s.right_number (Ok (right_sealed (right_site_of left right start carried s k.right_draft.triple) (drafted right k.right_draft.triple.right s.right_draft))) (r', b)
         (subst (λ r. right_seal right r ≡ Ok (r', b)) (sym of) made) in
         let q = seals_right holds left right start carried from_left from_right s k m.on in
         let both = same_pair_ok (sealed_right s k q) m.answers in
@@ -389,8 +389,8 @@ module _ (holds : DocTree → CompTree → DocTree → Type 0) (left : TyTree) (
   refuses_seal_right s l r a why made =
       let k = a.linked in
       let of = right_is_of s r k a.right_is in
-      let answer = right_sealed (right_of left right start carried s k.right_draft.triple) (drafted right k.right_draft.triple.right s.right_draft) in
-      let made' : right_seal right (right_of left right start carried s k.right_draft.triple) ≡ Err why = subst (λ r. right_seal right r ≡ Err why) (sym of) made in
+      let answer = right_sealed (right_site_of left right start carried s k.right_draft.triple) (drafted right k.right_draft.triple.right s.right_draft) in
+      let made' : right_seal right (right_site_of left right start carried s k.right_draft.triple) ≡ Err why = subst (λ r. right_seal right r ≡ Err why) (sym of) made in
       let n = s.right_number in
       elim (is_turn Right n) as (λ v. is_turn Right n ≡ v → (if v then (if nat_eq n (2 ^ 64 - 1) then Err last_number else Ok answer) else Err (not_turn n)) ≡ Err why
       → happens left right start carried s (seal Right) ≡ Some (Err why)) [
@@ -416,7 +416,7 @@ module _ (holds : DocTree → CompTree → DocTree → Type 0) (left : TyTree) (
   -- a fresh batch is taken
   pub taken_left : (s : LinkTree) (k : Linked s) (b : BatchTree) → b.number ≤ length s.made → s.left_number < b.number
       → batch_word left right start carried s.made b.number ≡ Some b.word
-      → (l' : LeftTree) × (left_receive left carried (left_of left right start carried s k.left_draft.triple) b ≡ Ok (l', Taken)) × (left_site left right start carried (with_number Left b.number s) ≡ Some l')
+      → (l' : LeftTree) × (left_receive left carried (left_site_of left right start carried s k.left_draft.triple) b ≡ Ok (l', Taken)) × (left_site left right start carried (with_number Left b.number s) ≡ Some l')
   taken_left s k b made newer word =
       let new = fresh_left holds left right start carried s k.turns b.number made newer in
       let q = takes_left holds left right start carried s k b.word b.number made newer word in
@@ -433,7 +433,7 @@ module _ (holds : DocTree → CompTree → DocTree → Type 0) (left : TyTree) (
 
   pub taken_right : (s : LinkTree) (k : Linked s) (b : BatchTree) → b.number ≤ length s.made → s.right_number < b.number
       → batch_word left right start carried s.made b.number ≡ Some b.word
-      → (r' : RightTree) × (right_receive right (right_of left right start carried s k.right_draft.triple) b ≡ Ok (r', Taken)) × (right_site left right start carried (with_number Right b.number s) ≡ Some r')
+      → (r' : RightTree) × (right_receive right (right_site_of left right start carried s k.right_draft.triple) b ≡ Ok (r', Taken)) × (right_site left right start carried (with_number Right b.number s) ≡ Some r')
   taken_right s k b made newer word =
       let new = fresh_right holds left right start carried s k.turns b.number made newer in
       let q = takes_right holds left right start carried s k b.word b.number made newer word in
@@ -450,18 +450,18 @@ module _ (holds : DocTree → CompTree → DocTree → Type 0) (left : TyTree) (
   -- a batch of a packet, at its addressee
   pub receives_left-of : (s : LinkTree) (k : Linked s) (r : RightTree) → right_site left right start carried s ≡ Some r → (p : ℕ) (b : BatchTree)
       → slice_get s.packets p ≡ Some (record { to = Left; batch = b })
-      → (l' : LeftTree) × (a : Received) × (left_receive left carried (left_of left right start carried s k.left_draft.triple) b ≡ Ok (l', a)) × Receives s p Left b.number a l' r
+      → (l' : LeftTree) × (a : Received) × (left_receive left carried (left_site_of left right start carried s k.left_draft.triple) b ≡ Ok (l', a)) × Receives s p Left b.number a l' r
   receives_left-of s k r right_is p b is =
       let of = k.turns.packets p (record { to = Left; batch = b }) is in
       elim (nat_le b.number s.left_number) as (λ v. nat_le b.number s.left_number ≡ v
-      → (l' : LeftTree) × (a : Received) × (left_receive left carried (left_of left right start carried s k.left_draft.triple) b ≡ Ok (l', a)) × Receives s p Left b.number a l' r) [
+      → (l' : LeftTree) × (a : Received) × (left_receive left carried (left_site_of left right start carried s k.left_draft.triple) b ≡ Ok (l', a)) × Receives s p Left b.number a l' r) [
         | true ↦ λ old. (
-          left_of left right start carried s k.left_draft.triple,
+          left_site_of left right start carried s k.left_draft.triple,
           Stale,
           rw old refl,
           record {
             happened = rw (is, old) refl;
-            sites = record { linked = k; left_is = ap (option_map (left_of left right start carried s)) k.left_draft.at_number; right_is = right_is };
+            sites = record { linked = k; left_is = ap (option_map (left_site_of left right start carried s)) k.left_draft.at_number; right_is = right_is };
           },
         )
         | false ↦ λ new.
@@ -480,18 +480,18 @@ module _ (holds : DocTree → CompTree → DocTree → Type 0) (left : TyTree) (
 
   pub receives_right-of : (s : LinkTree) (k : Linked s) (l : LeftTree) → left_site left right start carried s ≡ Some l → (p : ℕ) (b : BatchTree)
       → slice_get s.packets p ≡ Some (record { to = Right; batch = b })
-      → (r' : RightTree) × (a : Received) × (right_receive right (right_of left right start carried s k.right_draft.triple) b ≡ Ok (r', a)) × Receives s p Right b.number a l r'
+      → (r' : RightTree) × (a : Received) × (right_receive right (right_site_of left right start carried s k.right_draft.triple) b ≡ Ok (r', a)) × Receives s p Right b.number a l r'
   receives_right-of s k l left_is p b is =
       let of = k.turns.packets p (record { to = Right; batch = b }) is in
       elim (nat_le b.number s.right_number) as (λ v. nat_le b.number s.right_number ≡ v
-      → (r' : RightTree) × (a : Received) × (right_receive right (right_of left right start carried s k.right_draft.triple) b ≡ Ok (r', a)) × Receives s p Right b.number a l r') [
+      → (r' : RightTree) × (a : Received) × (right_receive right (right_site_of left right start carried s k.right_draft.triple) b ≡ Ok (r', a)) × Receives s p Right b.number a l r') [
         | true ↦ λ old. (
-          right_of left right start carried s k.right_draft.triple,
+          right_site_of left right start carried s k.right_draft.triple,
           Stale,
           rw old refl,
           record {
             happened = rw (is, old) refl;
-            sites = record { linked = k; left_is = left_is; right_is = ap (option_map (right_of left right start carried s)) k.right_draft.at_number };
+            sites = record { linked = k; left_is = left_is; right_is = ap (option_map (right_site_of left right start carried s)) k.right_draft.at_number };
           },
         )
         | false ↦ λ new.
@@ -513,7 +513,7 @@ module _ (holds : DocTree → CompTree → DocTree → Type 0) (left : TyTree) (
   receives_left s l r a p b is l' answer made =
       let k = a.linked in
       let t = receives_left-of s k r a.right_is p b is in
-      let made' : left_receive left carried (left_of left right start carried s k.left_draft.triple) b ≡ Ok (l', answer) = subst (λ l. left_receive left carried l b ≡ Ok (l', answer)) (sym (left_is_of s l k a.left_is)) made in
+      let made' : left_receive left carried (left_site_of left right start carried s k.left_draft.triple) b ≡ Ok (l', answer) = subst (λ l. left_receive left carried l b ≡ Ok (l', answer)) (sym (left_is_of s l k a.left_is)) made in
       let both = same_pair t.2 made' in
       subst (λ a. Receives s p Left b.number a l' r) both.1 (subst (λ l. Receives s p Left b.number t.1 l r) both.0 t.3)
 
@@ -522,7 +522,7 @@ module _ (holds : DocTree → CompTree → DocTree → Type 0) (left : TyTree) (
   receives_right s l r a p b is r' answer made =
       let k = a.linked in
       let t = receives_right-of s k l a.left_is p b is in
-      let made' : right_receive right (right_of left right start carried s k.right_draft.triple) b ≡ Ok (r', answer) = subst (λ r. right_receive right r b ≡ Ok (r', answer)) (sym (right_is_of s r k a.right_is)) made in
+      let made' : right_receive right (right_site_of left right start carried s k.right_draft.triple) b ≡ Ok (r', answer) = subst (λ r. right_receive right r b ≡ Ok (r', answer)) (sym (right_is_of s r k a.right_is)) made in
       let both = same_pair t.2 made' in
       subst (λ a. Receives s p Right b.number a l r') both.1 (subst (λ r. Receives s p Right b.number t.1 l r) both.0 t.3)
 
@@ -533,7 +533,7 @@ module _ (holds : DocTree → CompTree → DocTree → Type 0) (left : TyTree) (
       let k = a.linked in
       let t = receives_left-of s k r a.right_is p b is in
       let accepted = t.2 in
-      let made' : left_receive left carried (left_of left right start carried s k.left_draft.triple) b ≡ Err why = subst (λ l. left_receive left carried l b ≡ Err why) (sym (left_is_of s l k a.left_is)) made in
+      let made' : left_receive left carried (left_site_of left right start carried s k.left_draft.triple) b ≡ Err why = subst (λ l. left_receive left carried l b ≡ Err why) (sym (left_is_of s l k a.left_is)) made in
       apart accepted made'
 
   pub never_refused_right : (s : LinkTree) (l : LeftTree) (r : RightTree) → Sites s l r → (p : ℕ) (b : BatchTree) → slice_get s.packets p ≡ Some (record { to = Right; batch = b })
@@ -542,5 +542,5 @@ module _ (holds : DocTree → CompTree → DocTree → Type 0) (left : TyTree) (
       let k = a.linked in
       let t = receives_right-of s k l a.left_is p b is in
       let accepted = t.2 in
-      let made' : right_receive right (right_of left right start carried s k.right_draft.triple) b ≡ Err why = subst (λ r. right_receive right r b ≡ Err why) (sym (right_is_of s r k a.right_is)) made in
+      let made' : right_receive right (right_site_of left right start carried s k.right_draft.triple) b ≡ Err why = subst (λ r. right_receive right r b ≡ Err why) (sym (right_is_of s r k a.right_is)) made in
       apart accepted made'

@@ -143,8 +143,8 @@ module _ (left : TyTree) (right : TyTree) (start : CompTree) (carried : Side →
   shown side s = option_map (document_on side) (triple_at s.made (number_on side s))
 
   -- the two sites of a link, which show the documents and the complement of these triples
-  abbrev pub left_of : LinkTree → TripleTree → LeftTree
-  left_of s t = record {
+  abbrev pub left_site_of : LinkTree → TripleTree → LeftTree
+  left_site_of s t = record {
     number = s.left_number;
     doc = t.left;
     comp = t.comp;
@@ -153,8 +153,8 @@ module _ (left : TyTree) (right : TyTree) (start : CompTree) (carried : Side →
         last_batch Left s.made s.left_number;
   }
 
-  abbrev pub right_of : LinkTree → TripleTree → RightTree
-  right_of s t = record {
+  abbrev pub right_site_of : LinkTree → TripleTree → RightTree
+  right_site_of s t = record {
     number = s.right_number;
     doc = t.right;
     draft = s.right_draft;
@@ -163,10 +163,10 @@ module _ (left : TyTree) (right : TyTree) (start : CompTree) (carried : Side →
   }
 
   abbrev pub left_site : LinkTree → Option LeftTree
-  left_site s = option_map (left_of s) (triple_at s.made s.left_number)
+  left_site s = option_map (left_site_of s) (triple_at s.made s.left_number)
 
   abbrev pub right_site : LinkTree → Option RightTree
-  right_site s = option_map (right_of s) (triple_at s.made s.right_number)
+  right_site s = option_map (right_site_of s) (triple_at s.made s.right_number)
 
   -- the batch of a new entry is named
   abbrev pub naming : Side → LinkTree → Option (Result (LinkTree × ToldTree) TurnRefusal)

@@ -14,7 +14,7 @@ use Rattle.edit_module.specs.declared.word.Word.{Word}
 use Rattle.lens_core.specs.Laws.{WordsCarry, StartTogether, TogetherAreTyped}
 use Rattle.lens_core.specs.declared.lens.EditLens as OfLens
 use Rattle.view_hub.specs.Groups.{GroupStepped, with_words, with_view, step_group, add_view}
-use Rattle.view_hub.specs.Hubs.{ViewTree, HubTree, Place, CarriedTree, ViewRefusal, lower, step, first_view}
+use Rattle.view_hub.specs.Hubs.{ViewTree, HubTree, Place, CarriedTree, ViewRefusal, lower, hub_step, first_view}
 use Rattle.view_hub.specs.Laws.{AllInStep, SameLeft, HaveOneLeftType, IsHub}
 use Rattle.view_hub.specs.Lowering.{IsLowered}
 use Rattle.view_hub.specs.Views.{edit_tree, edit_trees, hub_tree, view_tree, view_trees}
@@ -52,29 +52,29 @@ module _ {L : Type 0} (lens : OfLens.Ghosts L) (ls : List L) where
 
   -- an edit that is accepted leaves the others to do
   remaining-next : (cs : List CarriedTree) (h k : HubTree) (c : CarriedTree) (e : Place × WordTree) (es : List (Place × WordTree))
-      → step lens ls h e ≡ Some (Ok (k, c)) → remaining cs h (e ∷ es) ≡ remaining (cs ++ c ∷ []) k es
+      → hub_step lens ls h e ≡ Some (Ok (k, c)) → remaining cs h (e ∷ es) ≡ remaining (cs ++ c ∷ []) k es
   remaining-next cs h k c e es is = rw is (behind-more cs c (step_group lens ls k es))
 
   -- an edit that is refused refuses all, with the number of those before it
   remaining-refused : (cs : List CarriedTree) (h : HubTree) (why : ViewRefusal) (e : Place × WordTree) (es : List (Place × WordTree))
-      → step lens ls h e ≡ Some (Err why) → remaining cs h (e ∷ es) ≡ Some (Err (length cs, why))
+      → hub_step lens ls h e ≡ Some (Err why) → remaining cs h (e ∷ es) ≡ Some (Err (length cs, why))
   remaining-refused cs h why e es is =
       let none : length cs + 0 ≡ length cs = omega arith in
       rw is (ap (λ n. Some (Err (n, why))) none)
 
   -- the same of the edit with a number in a list of them
   pub next_accepted : (es : List (HubSide × Word)) (i : ℕ) (e : HubSide × Word) (cs : List CarriedTree) (h k : HubTree) (c : CarriedTree) → i < length es → e ≡ get_or es i e
-      → step lens ls h (edit_tree e) ≡ Some (Ok (k, c))
+      → hub_step lens ls h (edit_tree e) ≡ Some (Ok (k, c))
       → remaining cs h (edit_trees (drop i es)) ≡ remaining (cs ++ c ∷ []) k (edit_trees (drop (i + 1) es))
   next_accepted es i e cs h k c within is accepted =
-      let steps : step lens ls h (edit_tree (get_or es i e)) ≡ Some (Ok (k, c)) = ap (λ x. step lens ls h (edit_tree x)) (sym is) ∙ accepted in
+      let steps : hub_step lens ls h (edit_tree (get_or es i e)) ≡ Some (Ok (k, c)) = ap (λ x. hub_step lens ls h (edit_tree x)) (sym is) ∙ accepted in
       rw (drop-cons es i e, add-one i) (remaining-next cs h k c (edit_tree (get_or es i e)) (edit_trees (drop (suc i) es)) steps)
 
   pub next_refused : (es : List (HubSide × Word)) (i : ℕ) (e : HubSide × Word) (cs : List CarriedTree) (h : HubTree) (why : ViewRefusal) → i < length es → e ≡ get_or es i e
-      → step lens ls h (edit_tree e) ≡ Some (Err why)
+      → hub_step lens ls h (edit_tree e) ≡ Some (Err why)
       → remaining cs h (edit_trees (drop i es)) ≡ Some (Err (length cs, why))
   next_refused es i e cs h why within is refused =
-      let steps : step lens ls h (edit_tree (get_or es i e)) ≡ Some (Err why) = ap (λ x. step lens ls h (edit_tree x)) (sym is) ∙ refused in
+      let steps : hub_step lens ls h (edit_tree (get_or es i e)) ≡ Some (Err why) = ap (λ x. hub_step lens ls h (edit_tree x)) (sym is) ∙ refused in
       rw (drop-cons es i e) (remaining-refused cs h why (edit_tree (get_or es i e)) (edit_trees (drop (suc i) es)) steps)
 
   -- no edits are left

@@ -12,7 +12,7 @@ use Rattle.lens_core.specs.Translation.{Translated}
 use Rattle.lens_core.specs.Laws.{WordsCarry, StartTogether, TogetherAreTyped}
 use Rattle.view_hub.specs.declared.fault.HubFault.{HubFault}
 use Rattle.view_hub.specs.declared.fault.HubFault.TheVariants.{NoView, NoApply, NoMemory}
-use Rattle.view_hub.specs.Hubs.{ViewTree, HubTree, Place, at_view, CarriedTree, no_view, hub_after, lower_others, step, first_hub, start_hub}
+use Rattle.view_hub.specs.Hubs.{ViewTree, HubTree, Place, at_view, CarriedTree, no_view, hub_after, lower_others, hub_step, first_hub, start_hub}
 use Rattle.view_hub.specs.Laws.{HaveOneLeftType, IsHub}
 use Rattle.view_hub.specs.Lowering.{CanLower, Adds, IsLifted}
 use Rattle.view_hub.specs.Views.{IsHubRefusal, IsActionFault}
@@ -24,7 +24,7 @@ module _ {L : Type 0} (lens : OfLens.Ghosts L) where
   pub view_steps : (ls : List L) (h : HubTree) (k : ℕ) (l : L) (v : ViewTree) (w : WordTree) (new : ViewTree) (up : WordTree) (x : DocTree) (vs : List ViewTree) (ws : List WordTree)
       → slice_get ls k ≡ Some l → slice_get h.views k ≡ Some v → IsLifted lens l h.hub v w new up x
       → Adds (lower_others lens up (new, w) k ls h.views) [] [] vs ws
-      → step lens ls h (at_view k, w) ≡ Some (Ok (record { hub = x; views = vs }, record { hub = up; views = ws }))
+      → hub_step lens ls h (at_view k, w) ≡ Some (Ok (record { hub = x; views = vs }, record { hub = up; views = ws }))
   view_steps ls h k l v w new up x vs ws lens_at view lifted adds =
       let acts = lifted.acts in
       let carries = lifted.carries in
@@ -38,20 +38,20 @@ module _ {L : Type 0} (lens : OfLens.Ghosts L) where
   -- a word that is refused at its own view refuses the step
   pub view_refuses : (ls : List L) (h : HubTree) (k : ℕ) (l : L) (v : ViewTree) (w : WordTree) (fault : HubFault)
       → slice_get ls k ≡ Some l → slice_get h.views k ≡ Some v → IsActionFault (act (lens.right_type l) w v.doc) fault
-      → IsHubRefusal (step lens ls h (at_view k, w)) fault
+      → IsHubRefusal (hub_step lens ls h (at_view k, w)) fault
   view_refuses ls h k l v w (NoView views) lens_at view is = absurd is
   view_refuses ls h k l v w (NoApply at cause) lens_at view is = rw (view, lens_at, is) refl
   view_refuses ls h k l v w NoMemory lens_at view is = tt
 
   -- and so does a number that no view has
   pub no_view_refuses : (ls : List L) (h : HubTree) (k : ℕ) (w : WordTree) → slice_get h.views k ≡ None
-      → step lens ls h (at_view k, w) ≡ Some (Err (no_view (length h.views)))
+      → hub_step lens ls h (at_view k, w) ≡ Some (Err (no_view (length h.views)))
   no_view_refuses ls h k w none = rw none refl
 
   pub past_refuses : (ls : List L) (h : HubTree) (k : ℕ) (w : WordTree) (n : ℕ) → length h.views ≡ n → n ≤ k
-      → step lens ls h (at_view k, w) ≡ Some (Err (no_view n))
+      → hub_step lens ls h (at_view k, w) ≡ Some (Err (no_view n))
   past_refuses ls h k w n count past =
-      subst (λ n. step lens ls h (at_view k, w) ≡ Some (Err (no_view n))) count
+      subst (λ n. hub_step lens ls h (at_view k, w) ≡ Some (Err (no_view n))) count
       (no_view_refuses ls h k w (slice_get_past h.views k (omega arith)))
 
 module _ {L : Type 0} (lens : OfLens.Ghosts L)
@@ -67,7 +67,7 @@ module _ {L : Type 0} (lens : OfLens.Ghosts L)
   same_result p q = cc
 
   -- a hub that made a step is in step again
-  pub stays : (ls : List L) (h h' : HubTree) (e : Place × WordTree) (c : CarriedTree) → Hub ls h → step lens ls h e ≡ Some (Ok (h', c)) → Hub ls h'
+  pub stays : (ls : List L) (h h' : HubTree) (e : Place × WordTree) (c : CarriedTree) → Hub ls h → hub_step lens ls h e ≡ Some (Ok (h', c)) → Hub ls h'
   stays [] h h' e c all is = absurd all
   stays (l ∷ ls) h h' e c all is =
       let k = keeps lens from_left from_right (lens.left_type l) l ls h e all in

@@ -5,7 +5,7 @@ use Rattle.doc_values.specs.Typing.{has}
 use Rattle.edit_module.specs.Action.{act}
 use Rattle.edit_module.specs.Words.{WordTree}
 use Rattle.lens_core.specs.declared.lens.EditLens as OfLens
-use Rattle.view_hub.specs.Hubs.{ViewTree, HubTree, Place, CarriedTree, step}
+use Rattle.view_hub.specs.Hubs.{ViewTree, HubTree, Place, CarriedTree, hub_step}
 use Rattle.view_hub.specs.Laws.{IsHub}
 
 module _ {L : Type 0} (lens : OfLens.Ghosts L) where
@@ -30,4 +30,4 @@ module _ {L : Type 0} (lens : OfLens.Ghosts L) where
   -- the words that a step of a hub returns act on its documents, and make those of the hub behind it
   abbrev pub WordsAct : Type 0
   WordsAct = (ls : List L) (h g : HubTree) (e : Place × WordTree) (c : CarriedTree) → IsHub lens ls h
-      → step lens ls h e ≡ Some (Ok (g, c)) → ActsTo ls h c g
+      → hub_step lens ls h e ≡ Some (Ok (g, c)) → ActsTo ls h c g

@@ -3,7 +3,7 @@
 use Rattle.std.specs.Prelude.{ℕ, ◌+◌, List, [], ◌∷◌, ◌++◌, Option, Some, option_map, option_and_then, Result, Ok, Err}
 use Rattle.edit_module.specs.Words.{WordTree}
 use Rattle.lens_core.specs.declared.lens.EditLens as OfLens
-use Rattle.view_hub.specs.Hubs.{ViewTree, HubTree, Place, CarriedTree, ViewRefusal, lower, step, first_view}
+use Rattle.view_hub.specs.Hubs.{ViewTree, HubTree, Place, CarriedTree, ViewRefusal, lower, hub_step, first_view}
 
 -- ---- a group
 
@@ -37,7 +37,7 @@ module _ {L : Type 0} (lens : OfLens.Ghosts L) where
   -- refuses them all. No edits leave the hub as it is.
   abbrev pub step_group : List L → HubTree → List (Place × WordTree) → Option GroupStepped
   step_group ls h [] = Some (Ok (h, []))
-  step_group ls h (e ∷ es) = option_and_then (then_others (λ next. step_group ls next es)) (step lens ls h e)
+  step_group ls h (e ∷ es) = option_and_then (then_others (λ next. step_group ls next es)) (hub_step lens ls h e)
 
   -- the hub with a view more: what its lens makes, from its start, of a word that makes the hub's document
   abbrev pub add_view : L → WordTree → HubTree → Option HubTree

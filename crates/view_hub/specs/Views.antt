@@ -21,7 +21,7 @@ use Rattle.view_hub.specs.declared.view.HubParts.{HubParts}
 use Rattle.view_hub.specs.declared.view.View as a_view
 use Rattle.view_hub.specs.Groups.{GroupStepped}
 use Rattle.view_hub.specs.Hubs.{ViewTree, HubTree, Place, at_hub, at_view, CarriedTree, ViewRefusal, no_view, no_apply}
-use Rattle.view_hub.specs.Hubs.{step}
+use Rattle.view_hub.specs.Hubs.{hub_step}
 
 -- the lenses and the parts of a hub
 pub record HubOf (L : Type 0) : Type 0 where
@@ -92,12 +92,12 @@ module _ {L : Type 0} (lens : OfLens.Ghosts L) where
   -- as there
   abbrev pub IsNextOutcome : List L → HubTree → Place × WordTree → Result (HubParts × HubCarried) HubFault → Type 0
   IsNextOutcome ls h e result =
-      MatchResult result (λ r. step lens ls h e ≡ Some (Ok (hub_tree r.0, hub_carried_tree r.1)))
-      (IsHubRefusal (step lens ls h e))
+      MatchResult result (λ r. hub_step lens ls h e ≡ Some (Ok (hub_tree r.0, hub_carried_tree r.1)))
+      (IsHubRefusal (hub_step lens ls h e))
 
   -- a step returns the words of the definition and leaves the hub that it makes, or it is refused as there
   abbrev pub IsOutcome : HubOf L → Place × WordTree → HubOf L → Result HubCarried HubFault → Type 0
   IsOutcome old e new result =
-      MatchResult result (λ c. step lens old.lenses (hub_tree old.parts) e
+      MatchResult result (λ c. hub_step lens old.lenses (hub_tree old.parts) e
       ≡ Some (Ok (hub_tree new.parts, hub_carried_tree c)))
-      (IsHubRefusal (step lens old.lenses (hub_tree old.parts) e))
+      (IsHubRefusal (hub_step lens old.lenses (hub_tree old.parts) e))

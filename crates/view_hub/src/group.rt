@@ -2,7 +2,7 @@
 
 ghost use Rattle.std.specs.Prelude.{◌≡◌, Some, Ok, map, IfOk, MatchResult};
 ghost use Rattle.view_hub.specs.Groups.{step_group};
-ghost use Rattle.view_hub.specs.Hubs.{step};
+ghost use Rattle.view_hub.specs.Hubs.{hub_step};
 ghost use Rattle.view_hub.specs.Laws.{IsHub};
 ghost use Rattle.view_hub.specs.Views.{hub_carried_tree, edit_tree, edit_trees, hub_tree, IsGroupRefusal};
 ghost use Rattle.view_hub.specs.Views.{IsPartRefusal};
@@ -51,9 +51,9 @@ fn next_part<L: EditLens>(
 ) -> Result<(HubParts, HubCarried), HubGroupFault>
     requires in_step { IsHub L.EditLens lenses.now (hub_tree parts.now) }
     ensures steps { MatchResult result
-        (λ r. step L.EditLens lenses.now (hub_tree parts.now) (edit_tree edit.now)
+        (λ r. hub_step L.EditLens lenses.now (hub_tree parts.now) (edit_tree edit.now)
         ≡ Some (Ok (hub_tree r.0, hub_carried_tree r.1)))
-        (IsPartRefusal part (step L.EditLens lenses.now (hub_tree parts.now)
+        (IsPartRefusal part (hub_step L.EditLens lenses.now (hub_tree parts.now)
         (edit_tree edit.now))) }
     ensures in_step { IfOk result (λ r. IsHub L.EditLens lenses.now (hub_tree r.0)) }
 {

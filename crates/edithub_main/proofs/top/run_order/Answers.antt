@@ -1,6 +1,6 @@
 use Rattle.std.proofs.Common.{Some, sym, subst, refl}
 use Rattle.command_ends.proofs.AmongStatuses.{quiet_reads_nothing}
-use Rattle.edithub_main.specs.HubEnds.{EndsOrder, HubMayEnd}
+use Rattle.edithub_main.specs.HubEnds.{EndsHubOrder, HubMayEnd}
 use Rattle.edithub_main.specs.declared.words.HubOrder.TheVariants.{Init, Apply, Show, Verify, Pack, Undo, Add}
 use Rattle.edithub_main.proofs.HubClauses.{not_reading, not_diskless}
 use Rattle.edithub_main.proofs.top.run_order.Goals as goal
@@ -8,7 +8,7 @@ use Rattle.store_run.specs.Devices.{devices_of}
 
 pub returns-in-Init-clause-ends : goal.returns-in-Init-clause-ends
 returns-in-Init-clause-ends g c =
-    subst (EndsOrder g.S.Source g.K.Sink g.D.Disk (devices_of c.args.source.now c.args.sink.now c.args.disk.now) (devices_of c.run_init.new.source c.run_init.new.sink c.run_init.new.disk) c.run_init.result)
+    subst (EndsHubOrder g.S.Source g.K.Sink g.D.Disk (devices_of c.args.source.now c.args.sink.now c.args.disk.now) (devices_of c.run_init.new.source c.run_init.new.sink c.run_init.new.disk) c.run_init.result)
     (sym c.in-Init.is) c.run_init.ensures.makes
 
 pub returns-in-Init-clause-statuses : goal.returns-in-Init-clause-statuses
@@ -22,7 +22,7 @@ returns-in-Init-clause-untouched g c = λ h. absurd (not_diskless c.args.order I
 
 pub returns-in-Apply-clause-ends : goal.returns-in-Apply-clause-ends
 returns-in-Apply-clause-ends g c =
-    subst (EndsOrder g.S.Source g.K.Sink g.D.Disk (devices_of c.args.source.now c.args.sink.now c.args.disk.now) (devices_of c.run_apply.new.source c.run_apply.new.sink c.run_apply.new.disk) c.run_apply.result)
+    subst (EndsHubOrder g.S.Source g.K.Sink g.D.Disk (devices_of c.args.source.now c.args.sink.now c.args.disk.now) (devices_of c.run_apply.new.source c.run_apply.new.sink c.run_apply.new.disk) c.run_apply.result)
     (sym c.in-Apply.is) c.run_apply.ensures.applies
 
 pub returns-in-Apply-clause-statuses : goal.returns-in-Apply-clause-statuses
@@ -36,7 +36,7 @@ returns-in-Apply-clause-untouched g c = λ h. absurd (not_diskless c.args.order 
 
 pub returns-in-Show-clause-ends : goal.returns-in-Show-clause-ends
 returns-in-Show-clause-ends g c =
-    subst (EndsOrder g.S.Source g.K.Sink g.D.Disk (devices_of c.args.source.now c.args.sink.now c.args.disk.now) (devices_of c.args.source.now c.run_show.new.sink c.run_show.new.disk) c.run_show.result)
+    subst (EndsHubOrder g.S.Source g.K.Sink g.D.Disk (devices_of c.args.source.now c.args.sink.now c.args.disk.now) (devices_of c.args.source.now c.run_show.new.sink c.run_show.new.disk) c.run_show.result)
     (sym c.in-Show.is) c.run_show.ensures.shows
 
 pub returns-in-Show-clause-statuses : goal.returns-in-Show-clause-statuses
@@ -50,7 +50,7 @@ returns-in-Show-clause-untouched g c = λ h. absurd (not_diskless c.args.order S
 
 pub returns-in-Verify-clause-ends : goal.returns-in-Verify-clause-ends
 returns-in-Verify-clause-ends g c =
-    subst (EndsOrder g.S.Source g.K.Sink g.D.Disk (devices_of c.args.source.now c.args.sink.now c.args.disk.now) (devices_of c.args.source.now c.run_verify.new.sink c.run_verify.new.disk) c.run_verify.result)
+    subst (EndsHubOrder g.S.Source g.K.Sink g.D.Disk (devices_of c.args.source.now c.args.sink.now c.args.disk.now) (devices_of c.args.source.now c.run_verify.new.sink c.run_verify.new.disk) c.run_verify.result)
     (sym c.in-Verify.is) c.run_verify.ensures.verifies
 
 pub returns-in-Verify-clause-statuses : goal.returns-in-Verify-clause-statuses
@@ -64,7 +64,7 @@ returns-in-Verify-clause-untouched g c = λ h. absurd (not_diskless c.args.order
 
 pub returns-in-Pack-clause-ends : goal.returns-in-Pack-clause-ends
 returns-in-Pack-clause-ends g c =
-    subst (EndsOrder g.S.Source g.K.Sink g.D.Disk (devices_of c.args.source.now c.args.sink.now c.args.disk.now) (devices_of c.args.source.now c.run_pack.new.sink c.run_pack.new.disk) c.run_pack.result)
+    subst (EndsHubOrder g.S.Source g.K.Sink g.D.Disk (devices_of c.args.source.now c.args.sink.now c.args.disk.now) (devices_of c.args.source.now c.run_pack.new.sink c.run_pack.new.disk) c.run_pack.result)
     (sym c.in-Pack.is) c.run_pack.ensures.packs
 
 pub returns-in-Pack-clause-statuses : goal.returns-in-Pack-clause-statuses
@@ -78,7 +78,7 @@ returns-in-Pack-clause-untouched g c = λ h. absurd (not_diskless c.args.order P
 
 pub returns-in-Undo-clause-ends : goal.returns-in-Undo-clause-ends
 returns-in-Undo-clause-ends g c =
-    subst (EndsOrder g.S.Source g.K.Sink g.D.Disk (devices_of c.args.source.now c.args.sink.now c.args.disk.now) (devices_of c.args.source.now c.run_undo.new.sink c.run_undo.new.disk) c.run_undo.result)
+    subst (EndsHubOrder g.S.Source g.K.Sink g.D.Disk (devices_of c.args.source.now c.args.sink.now c.args.disk.now) (devices_of c.args.source.now c.run_undo.new.sink c.run_undo.new.disk) c.run_undo.result)
     (sym c.in-Undo.is) c.run_undo.ensures.undoes
 
 pub returns-in-Undo-clause-statuses : goal.returns-in-Undo-clause-statuses
@@ -92,7 +92,7 @@ returns-in-Undo-clause-untouched g c = λ h. absurd (not_diskless c.args.order (
 
 pub returns-in-Add-clause-ends : goal.returns-in-Add-clause-ends
 returns-in-Add-clause-ends g c =
-    subst (EndsOrder g.S.Source g.K.Sink g.D.Disk (devices_of c.args.source.now c.args.sink.now c.args.disk.now) (devices_of c.run_add.new.source c.run_add.new.sink c.run_add.new.disk) c.run_add.result)
+    subst (EndsHubOrder g.S.Source g.K.Sink g.D.Disk (devices_of c.args.source.now c.args.sink.now c.args.disk.now) (devices_of c.run_add.new.source c.run_add.new.sink c.run_add.new.disk) c.run_add.result)
     (sym c.in-Add.is) c.run_add.ensures.adds
 
 pub returns-in-Add-clause-statuses : goal.returns-in-Add-clause-statuses

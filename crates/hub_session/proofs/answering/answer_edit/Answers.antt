@@ -5,7 +5,7 @@ use Rattle.serde_json.specs.Read.{max_depth}
 use Rattle.edit_module.specs.Views.{word_tree}
 use Rattle.edit_module.specs.Words.{WordTree}
 use Rattle.lens_flat.specs.declared.flat.ReadyForm.{ReadyForm}
-use Rattle.view_hub.specs.Hubs.{Place, no_view, no_apply, step}
+use Rattle.view_hub.specs.Hubs.{Place, no_view, no_apply, hub_step}
 use Rattle.view_hub.specs.Views.{IsHubRefusal, hub_carried_tree, hub_tree, place_of_side}
 use Rattle.hub_run.specs.RunStates.{forms_of_lenses, ready_lens, hub_state_of}
 use Rattle.hub_records.specs.HubChanges.{HubChangeTree, tree_of_hub_change}
@@ -39,7 +39,7 @@ returns-in_ok-no_view_line-in-Err-NoView-clause-answer c =
     let hub = c.args.hub.now in
     let e = c.in-Err-NoView in
     let edit : Place × WordTree = (place_of_side c.args.side, word_tree c.args.word.now) in
-    let is = subst (IsHubRefusal (step ready_lens hub.lenses (hub_tree hub.parts) edit)) e.field-0-is e.ensures.steps in
+    let is = subst (IsHubRefusal (hub_step ready_lens hub.lenses (hub_tree hub.parts) edit)) e.field-0-is e.ensures.steps in
     edit_refusal hub.lenses (hub_tree hub.parts) c.args.number (hub_change_tree c.args.change.now) edit (no_view e.field-0-0) c.refused.result c.requires.is_edit is
     (c.refused.ensures.line ∙ c.in_ok-no_view_line-in-Err-NoView.ensures.line) c.refused.ensures.payload
     ∙ ap (λ x. Some (hub_state_of x, c.refused.result)) (sym e.ensures.unchanged)
@@ -49,7 +49,7 @@ returns-in_ok-no_apply_line-in-Err-NoApply-clause-answer c =
     let hub = c.args.hub.now in
     let e = c.in-Err-NoApply in
     let edit : Place × WordTree = (place_of_side c.args.side, word_tree c.args.word.now) in
-    let is = subst (IsHubRefusal (step ready_lens hub.lenses (hub_tree hub.parts) edit)) e.field-0-is e.ensures.steps in
+    let is = subst (IsHubRefusal (hub_step ready_lens hub.lenses (hub_tree hub.parts) edit)) e.field-0-is e.ensures.steps in
     edit_refusal hub.lenses (hub_tree hub.parts) c.args.number (hub_change_tree c.args.change.now) edit (no_apply e.at e.cause) c.refused-in-Err-NoApply.result c.requires.is_edit is
     (c.refused-in-Err-NoApply.ensures.line ∙ c.in_ok-no_apply_line-in-Err-NoApply.ensures.line) c.refused-in-Err-NoApply.ensures.payload
     ∙ ap (λ x. Some (hub_state_of x, c.refused-in-Err-NoApply.result)) (sym e.ensures.unchanged)

@@ -2,7 +2,7 @@ use Rattle.std.proofs.Common.{◌≡◌, List, [], ◌++◌, Bool, Some, length,
 use Rattle.view_hub.specs.Hubs.{CarriedTree}
 use Rattle.view_hub.specs.Views.{hub_carried_tree, hub_tree}
 use Rattle.view_hub.specs.declared.side.HubCarried.{HubCarried}
-use Rattle.hub_undo.specs.HubUndone.{BringsBack}
+use Rattle.hub_undo.specs.HubUndone.{HubBringsBack}
 use Rattle.hub_undo.specs.HubUndoing.{edits_of_all}
 use Rattle.hub_undo.specs.UndoMaking.{change_trees}
 use Rattle.hub_undo.specs.UndoSteps.{HasViews, Stepping, joined_all}
@@ -61,4 +61,4 @@ returns-clause-brings_back g c =
     let lenses = c.lenses.ensures.lenses ∙ c.in_ok-undo_each.ensures.lenses in
     let words : hub_carried_tree c.in_ok-words.words ≡ joined_all (length hub.lenses) all.0 =
     c.in_ok-words.ensures ∙ ap (λ ls. joined_all (length ls) (carried_trees c.undo_each.new.parts.items)) lenses ∙ ap (joined_all (length hub.lenses)) parts in
-    subst (λ (w : CarriedTree). BringsBack of hub.lenses w k h) (sym words) (all_back of hub.lenses h es all.0 k c.hub-hub.ensures.in_step all.2)
+    subst (λ (w : CarriedTree). HubBringsBack of hub.lenses w k h) (sym words) (all_back of hub.lenses h es all.0 k c.hub-hub.ensures.in_step all.2)

@@ -1,7 +1,7 @@
 use Rattle.std.proofs.Common.{◌≡◌, ◌+◌, ◌∷◌, [], ◌||◌, not}
 use Rattle.std.specs.Prelude.{option_to_list, is_some}
 use Rattle.store_run.specs.Answered.{Answers, StopsAmong}
-use Rattle.store_run.specs.Effects.{Adds, Stops}
+use Rattle.store_run.specs.Effects.{Adds, StopsStoring}
 use Rattle.store_run.proofs.AnsweredLines.{answers_one, stops_before, stops_at}
 use Rattle.store_run.proofs.Outcomes.{if_err}
 use Rattle.store_run.proofs.StoredPayloads.{images_held}
@@ -62,6 +62,6 @@ returns-clause-stopped g c =
     let t' = state c.answer.new.self in
     let n = c.args.progress.now.number in
     let line = c.args.line.now in
-    if_err c.finish_item.result (λ stop. Stops sink disk (k, d, l) (k', d', l') stop [] a.line [] (option_to_list a.payload)) (StopsAmong sink disk session (k, d, l) (k', d', l') t n (line ∷ []))
+    if_err c.finish_item.result (λ stop. StopsStoring sink disk (k, d, l) (k', d', l') stop [] a.line [] (option_to_list a.payload)) (StopsAmong sink disk session (k, d, l) (k', d', l') t n (line ∷ []))
     (λ stop stops. stops_at sink disk session only hold k k' d d' l l' t t' n line a stop c.requires.item c.in-Ok.ensures.answer c.in-Ok.ensures.step c.in-Ok.ensures.is_answer stops)
     c.finish_item.ensures.stopped

@@ -1,7 +1,7 @@
 use Rattle.std.proofs.Common.{◌≡◌, ◌⊎◌, inl, inr, Some, ap, ℕ, List, [], ◌∷◌, ◌++◌, sym, subst, ◌∙◌, refl}
 use Rattle.std.specs.Prelude.{option_to_list}
 use Rattle.gate_log.specs.LogOnDisk.{HoldsPayloads}
-use Rattle.store_run.specs.Effects.{Adds, Stops}
+use Rattle.store_run.specs.Effects.{Adds, StopsStoring}
 use Rattle.store_run.specs.PackCall.{packed}
 use Rattle.store_run.specs.declared.stop.Stop.{Stop}
 use Rattle.store_run.specs.Stopping.{IsOwnStop}
@@ -108,8 +108,8 @@ returns-clause-safe g c =
     let stop = c.in-Err.stop in
     let has = c.in-Ok.ensures.has in
     let is : snap ≡ session.snapshot_text t = c.as_slice-snapshot.ensures ∙ c.in-Ok.ensures.snapshot in
-    let stopped : Stops sink disk (k, d, l) (k', d', l') stop [] [] [] (option_to_list version) ⊎ Stops sink disk (k, d, l) (k', d', l') stop [] line (option_to_list version) (session.snapshot_text t ∷ []) =
-    subst (λ (x : List ℕ). Stops sink disk (k, d, l) (k', d', l') stop [] [] [] (option_to_list version) ⊎ Stops sink disk (k, d, l) (k', d', l') stop [] line (option_to_list version) (x ∷ [])) is c.in-Err.ensures.stopped in
+    let stopped : StopsStoring sink disk (k, d, l) (k', d', l') stop [] [] [] (option_to_list version) ⊎ StopsStoring sink disk (k, d, l) (k', d', l') stop [] line (option_to_list version) (session.snapshot_text t ∷ []) =
+    subst (λ (x : List ℕ). StopsStoring sink disk (k, d, l) (k', d', l') stop [] [] [] (option_to_list version) ⊎ StopsStoring sink disk (k, d, l) (k', d', l') stop [] line (option_to_list version) (x ∷ [])) is c.in-Err.ensures.stopped in
     λ before st h.
     safe_short sink disk hold session reads laws.version_stands laws.snapshot_stands laws.version_counts laws.snapshot_counts t has d d' before version h (HoldsPayloads before) k k' l l' stop line
     stopped st
@@ -203,8 +203,8 @@ returns-clause-exits g c =
     let snap = c.as_slice-snapshot.result.now in
     let has = c.in-Ok.ensures.has in
     let is : snap ≡ session.snapshot_text t = c.as_slice-snapshot.ensures ∙ c.in-Ok.ensures.snapshot in
-    let stopped : Stops sink disk (k, d, l) (k1, d', l') stop [] [] [] (option_to_list version) ⊎ Stops sink disk (k, d, l) (k1, d', l') stop [] line (option_to_list version) (session.snapshot_text t ∷ []) =
-    subst (λ (x : List ℕ). Stops sink disk (k, d, l) (k1, d', l') stop [] [] [] (option_to_list version) ⊎ Stops sink disk (k, d, l) (k1, d', l') stop [] line (option_to_list version) (x ∷ [])) is c.in-Err.ensures.stopped in
+    let stopped : StopsStoring sink disk (k, d, l) (k1, d', l') stop [] [] [] (option_to_list version) ⊎ StopsStoring sink disk (k, d, l) (k1, d', l') stop [] line (option_to_list version) (session.snapshot_text t ∷ []) =
+    subst (λ (x : List ℕ). StopsStoring sink disk (k, d, l) (k1, d', l') stop [] [] [] (option_to_list version) ⊎ StopsStoring sink disk (k, d, l) (k1, d', l') stop [] line (option_to_list version) (x ∷ [])) is c.in-Err.ensures.stopped in
     λ before st h n.
     let says : line ≡ packed_line (session.count_of before) = c.as_slice-line.ensures ∙ c.in-Ok.ensures.line ∙ ap packed_line n in
     inl (record {
@@ -220,7 +220,7 @@ returns-clause-exits g c =
           stop = stop;
           own = c.in-Err.ensures.own;
           stops =
-              subst (λ (y : List ℕ). Stops sink disk (k, d, l) (k1, d', l') stop [] [] [] (option_to_list version) ⊎ Stops sink disk (k, d, l) (k1, d', l') stop [] y (option_to_list version) (session.snapshot_text t ∷ [])) says
+              subst (λ (y : List ℕ). StopsStoring sink disk (k, d, l) (k1, d', l') stop [] [] [] (option_to_list version) ⊎ StopsStoring sink disk (k, d, l) (k1, d', l') stop [] y (option_to_list version) (session.snapshot_text t ∷ [])) says
               stopped;
           status_is = c.give_stop.ensures.gives;
         });

@@ -1,6 +1,6 @@
 use Rattle.std.proofs.Common.{◌⊎◌, inr, [], ◌∷◌, ◌++◌}
 use Rattle.std.specs.Prelude.{option_to_list}
-use Rattle.store_run.specs.Effects.{Adds, Stops}
+use Rattle.store_run.specs.Effects.{Adds, StopsStoring}
 use Rattle.store_run.proofs.Effects.{packs, packs_short}
 use Rattle.store_run.proofs.Outcomes.{if_err}
 use Rattle.store_run.proofs.StoredPayloads.{images_held}
@@ -45,7 +45,7 @@ returns-clause-stopped g c =
     let version = option_to_list c.args.version.now in
     let line = c.args.line.now in
     let kept = c.args.snapshot.now ∷ [] in
-    if_err c.store_and_answer.result (λ stop. Stops sink disk (k, d1, l1) (k', d', l') stop [] line [] kept)
-    (λ stop. Stops sink disk (k, d, l) (k', d', l') stop [] [] [] version ⊎ Stops sink disk (k, d, l) (k', d', l') stop [] line version kept)
+    if_err c.store_and_answer.result (λ stop. StopsStoring sink disk (k, d1, l1) (k', d', l') stop [] line [] kept)
+    (λ stop. StopsStoring sink disk (k, d, l) (k', d', l') stop [] [] [] version ⊎ StopsStoring sink disk (k, d, l) (k', d', l') stop [] line version kept)
     (λ stop stops. inr (packs_short sink disk only hold k k' d d1 d' l l1 l' version stop line kept c.in_ok-store_version.ensures.stored stops))
     c.store_and_answer.ensures.stopped

@@ -1,5 +1,5 @@
 use Rattle.std.proofs.Common.{refl, sym, subst}
-use Rattle.store_run.specs.Refusals.{Refuses}
+use Rattle.store_run.specs.Refusals.{WritesRefusal}
 use Rattle.store_run.specs.declared.refusals.StoreRefusal.{StoreRefusal}
 use Rattle.store_run.specs.declared.refusals.StoreRefusal.TheVariants.{NotALog, LogExists, LogFull, BadRecord, NotConsistent, NothingToUndo}
 use Rattle.store_run.proofs.RefusalEnds.{refuses_given}
@@ -17,13 +17,13 @@ returns-in-LogFull-clause-refuses g c = refuses_given g.K.Sink c.args.sink.now c
 pub returns-in-BadRecord-clause-refuses : goal.returns-in-BadRecord-clause-refuses
 returns-in-BadRecord-clause-refuses g c =
     let sink = g.K.Sink in
-    subst (λ (r : StoreRefusal). Refuses sink c.args.sink.now c.give_made.new.sink r c.give_made.result) (sym c.in-BadRecord.is)
+    subst (λ (r : StoreRefusal). WritesRefusal sink c.args.sink.now c.give_made.new.sink r c.give_made.result) (sym c.in-BadRecord.is)
     (c.give_made.ensures.refuses (BadRecord c.in-BadRecord.number) c.bad_record_line.ensures)
 
 pub returns-in-NotConsistent-clause-refuses : goal.returns-in-NotConsistent-clause-refuses
 returns-in-NotConsistent-clause-refuses g c =
     let sink = g.K.Sink in
-    subst (λ (r : StoreRefusal). Refuses sink c.args.sink.now c.give_made-in-NotConsistent.new.sink r c.give_made-in-NotConsistent.result) (sym c.in-NotConsistent.is)
+    subst (λ (r : StoreRefusal). WritesRefusal sink c.args.sink.now c.give_made-in-NotConsistent.new.sink r c.give_made-in-NotConsistent.result) (sym c.in-NotConsistent.is)
     (c.give_made-in-NotConsistent.ensures.refuses (NotConsistent c.in-NotConsistent.number) c.not_consistent_line.ensures)
 
 pub returns-in-NothingToUndo-clause-refuses : goal.returns-in-NothingToUndo-clause-refuses

@@ -1,7 +1,7 @@
 use Rattle.std.proofs.Common.{◌∷◌, [], Err, ap, sym, subst}
 use Rattle.gate_log.specs.LogOnDisk.{LogState}
 use Rattle.gate_log.specs.declared.fault.LogFault.{LogFault}
-use Rattle.store_run.specs.Effects.{Stops}
+use Rattle.store_run.specs.Effects.{StopsStoring}
 use Rattle.store_run.specs.declared.stop.Stop.{Stop}
 use Rattle.store_run.proofs.Effects.{append_adds, append_stops, line_added, line_stopped}
 use Rattle.lens_io.specs.Calls.{GaveFront}
@@ -51,6 +51,6 @@ returns-in-Err-clause-stopped g c =
     let l' = c.append.new.self in
     let payload = c.args.payload.now in
     let line = c.args.line.now in
-    subst (λ (s : Stop). Stops sink disk (k, d, l) (k, d', l') s [] line [] (payload ∷ [])) (sym c.at_append.ensures.stop)
+    subst (λ (s : Stop). StopsStoring sink disk (k, d, l) (k, d', l') s [] line [] (payload ∷ [])) (sym c.at_append.ensures.stop)
     (append_stops sink disk only hold k d d' l l' payload line c.in-Err.fault c.requires.stands c.in-Err.ensures.ends c.in-Err.ensures.read c.in-Err.ensures.moments
     (λ e. c.in-Err.ensures.full.0 (ap (λ (x : LogFault). Err x) e)) (λ e. c.in-Err.ensures.sure (ap (λ (x : LogFault). Err x) e)) c.in-Err.ensures.rest)

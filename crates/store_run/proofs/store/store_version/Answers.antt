@@ -2,7 +2,7 @@ use Rattle.std.proofs.Common.{◌≡◌, ◌∷◌, [], List, ℕ, Option, Some,
 use Rattle.gate_log.specs.LogOnDisk.{LogState}
 use Rattle.gate_log.specs.declared.fault.LogFault.{LogFault}
 use Rattle.std.specs.Prelude.{option_to_list}
-use Rattle.store_run.specs.Effects.{Adds, Stops}
+use Rattle.store_run.specs.Effects.{Adds, StopsStoring}
 use Rattle.store_run.specs.declared.stop.Stop.{Stop}
 use Rattle.store_run.proofs.Effects.{adds_none, append_adds, append_stops}
 use Rattle.store_run.proofs.StoredPayloads.{images_held}
@@ -37,8 +37,8 @@ returns-in-Err-clause-stopped g c =
     let l' = c.append.new.self in
     let payload = c.as_slice.result.now in
     let is : c.args.version.now ≡ Some payload = c.in-Some.is ∙ ap (λ (x : List ℕ). Some x) (sym c.as_slice.ensures) in
-    subst (λ (o : Option (List ℕ)). Stops sink disk (k, d, l) (k, d', l') c.at_append.result [] [] [] (option_to_list o)) (sym is)
-    (subst (λ (s : Stop). Stops sink disk (k, d, l) (k, d', l') s [] [] [] (payload ∷ [])) (sym c.at_append.ensures.stop)
+    subst (λ (o : Option (List ℕ)). StopsStoring sink disk (k, d, l) (k, d', l') c.at_append.result [] [] [] (option_to_list o)) (sym is)
+    (subst (λ (s : Stop). StopsStoring sink disk (k, d, l) (k, d', l') s [] [] [] (payload ∷ [])) (sym c.at_append.ensures.stop)
     (append_stops sink disk only hold k d d' l l' payload [] c.in-Err.fault c.requires.stands c.in-Err.ensures.ends c.in-Err.ensures.read c.in-Err.ensures.moments
     (λ e. c.in-Err.ensures.full.0 (ap (λ (x : LogFault). Err x) e)) (λ e. c.in-Err.ensures.sure (ap (λ (x : LogFault). Err x) e)) c.in-Err.ensures.rest))
 

@@ -1,6 +1,6 @@
 use Rattle.std.proofs.Common.{◌⊎◌, inl, inr, ℕ, List, [], ◌∷◌, ◌++◌, Some, ap, subst, refl}
 use Rattle.std.specs.Prelude.{option_to_list}
-use Rattle.store_run.specs.Effects.{Adds, Stops}
+use Rattle.store_run.specs.Effects.{Adds, StopsStoring}
 use Rattle.store_run.specs.Stopping.{IsOwnStop}
 use Rattle.store_run.specs.declared.stop.Stop.{Stop}
 use Rattle.store_run.proofs.ApplyCausesHold.{caused_sink, caused_disk}
@@ -42,8 +42,8 @@ returns-in-Err-clause-ends g c =
       stop = stop;
       own = c.in-Err.ensures.own;
       stops =
-          subst (λ (y : List ℕ). Stops g.K.Sink disk (k, d, l) (k1, d', l') stop [] [] [] version ⊎ Stops g.K.Sink disk (k, d, l) (k1, d', l') stop [] y version (made.payload ∷ [])) c.as_slice-lines.ensures
-          (subst (λ (x : List ℕ). Stops g.K.Sink disk (k, d, l) (k1, d', l') stop [] [] [] version ⊎ Stops g.K.Sink disk (k, d, l) (k1, d', l') stop [] lines version (x ∷ [])) c.as_slice-payload.ensures c.in-Err.ensures.stopped);
+          subst (λ (y : List ℕ). StopsStoring g.K.Sink disk (k, d, l) (k1, d', l') stop [] [] [] version ⊎ StopsStoring g.K.Sink disk (k, d, l) (k1, d', l') stop [] y version (made.payload ∷ [])) c.as_slice-lines.ensures
+          (subst (λ (x : List ℕ). StopsStoring g.K.Sink disk (k, d, l) (k1, d', l') stop [] [] [] version ⊎ StopsStoring g.K.Sink disk (k, d, l) (k1, d', l') stop [] lines version (x ∷ [])) c.as_slice-payload.ensures c.in-Err.ensures.stopped);
       status_is = c.give_stop.ensures.gives;
     })
 

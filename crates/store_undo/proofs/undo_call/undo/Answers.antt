@@ -7,7 +7,7 @@ use Rattle.store_run.proofs.StoredPayloads.{images_held, reads_held}
 use Rattle.store_run.proofs.StoreOpenings.{ends_refused, fails_to_open, refused_by_log, same_fault, same_payloads, unopened_at_disk, unread_log}
 use Rattle.store_undo.specs.UndoCall.{HoldsNow}
 use Rattle.store_undo.specs.UndoEnds.{UndoEnds}
-use Rattle.store_undo.specs.Undoing.{refusal_of_log, undoing}
+use Rattle.store_undo.specs.Undoing.{undo_refusal_of_log, undoing}
 use Rattle.store_undo.proofs.UndoCalls.{ends_behind, exits_of, safe_kept, safe_of_ends, stood_now, undoes_call}
 use Rattle.store_undo.proofs.UndoCauses.{holds_before, other_status, undo_cause, undo_complete, unstored_of}
 use Rattle.store_undo.proofs.undo_call.undo.Goals as goal
@@ -116,7 +116,7 @@ returns-in-Ok-clause-refused g c =
     let opening = c.in-Ok.ensures.opening in
     λ other.
     let read = c.in-Ok.ensures.read other.bytes other.told in
-    let e = c.undo_payloads.ensures.refused other.reason (ap (refusal_of_log c.args.count) (sym read.holds) ∙ other.refused) in
+    let e = c.undo_payloads.ensures.refused other.reason (ap (undo_refusal_of_log c.args.count) (sym read.holds) ∙ other.refused) in
     (unwritten_then disk d d1 d' opening.unwritten e.0, same_room g.K.Sink disk k k' d d' status d1 other.reason opening.same_room e.1)
 
 -- ---- the store was not read
@@ -206,5 +206,5 @@ returns-in-Err-clause-refused g c =
     let fault = c.in-Err.fault in
     let ends = c.refuse_store.ensures.ends in
     λ other.
-    let refused = refused_by_log (refusal_of_log c.args.count) other.bytes other.reason other.refused refl (λ n. refl) fault (c.in-Err.ensures.read other.bytes other.told) in
+    let refused = refused_by_log (undo_refusal_of_log c.args.count) other.bytes other.reason other.refused refl (λ n. refl) fault (c.in-Err.ensures.read other.bytes other.told) in
     (c.in-Err.ensures.opening.unwritten, ends_refused g.K.Sink disk k k' d d1 status fault other.reason refused (λ e. c.in-Err.ensures.sure (ap (λ (x : OpenFault). Err x) e)) ends)

@@ -1,6 +1,6 @@
 use Rattle.std.proofs.Common.{◌≡◌, Some, Ok, subst}
 use Rattle.edit_module.specs.Views.{word_tree}
-use Rattle.view_hub.specs.Hubs.{step}
+use Rattle.view_hub.specs.Hubs.{hub_step}
 use Rattle.view_hub.specs.Views.{hub_tree, hub_carried_tree, place_of_side}
 use Rattle.view_hub.proofs.HubOutcomes.{stays}
 use Rattle.view_hub.proofs.hub.Hub.step.Goals as goal
@@ -11,7 +11,7 @@ invariant_of-self g c =
     g.met.L.EditLens.left_edits_carry g.met.L.EditLens.right_edits_carry
     c.self.inside.lenses.items (hub_tree c.self.inside.parts) (hub_tree c.in_ok-parts.parts)
     (place_of_side c.args.side, word_tree c.args.word.now) (hub_carried_tree c.in_ok-parts.carried) c.self.invariant
-    (subst (λ ls. step g.L.EditLens
+    (subst (λ ls. hub_step g.L.EditLens
     ls (hub_tree c.self.inside.parts) (place_of_side c.args.side, word_tree c.args.word.now)
     ≡ Some (Ok (hub_tree c.in_ok-parts.parts, hub_carried_tree c.in_ok-parts.carried))) c.deref.ensures.value c.in_ok-parts.ensures)
 
@@ -21,6 +21,6 @@ returns-clause-in_step g c =
     g.met.L.EditLens.left_edits_carry g.met.L.EditLens.right_edits_carry
     c.self.inside.lenses.items (hub_tree c.self.inside.parts) (hub_tree c.in_ok-parts.parts)
     (place_of_side c.args.side, word_tree c.args.word.now) (hub_carried_tree c.in_ok-parts.carried) c.self.invariant
-    (subst (λ ls. step g.L.EditLens
+    (subst (λ ls. hub_step g.L.EditLens
     ls (hub_tree c.self.inside.parts) (place_of_side c.args.side, word_tree c.args.word.now)
     ≡ Some (Ok (hub_tree c.in_ok-parts.parts, hub_carried_tree c.in_ok-parts.carried))) c.deref.ensures.value c.in_ok-parts.ensures)
