@@ -36,7 +36,8 @@ pub fn accepted_changes_are_a_run()
 {}
 
 /// The number of an item changes the answer line of a pair alone: the next triple and the payload are the same under
-/// every number. So all laws of store_laws hold for pairs.
+/// every number. So the laws of store_laws about runs hold for pairs. Those about calls are here: a call for a pair may
+/// run out of memory before it calls a device.
 pub fn a_pair_is_numbered_alike()
     ensures { IsNumberedAlike sessions }
 {}

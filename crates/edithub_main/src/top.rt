@@ -30,10 +30,13 @@ use std::alloc::Global;
 /// - `in_step`: each view of the hub of the store is in its lens's consistency relation with the hub's document; of
 ///   `apply`, in every state of the run.
 /// - `stops`: what was taken, written and stored at every status.
+/// - `at_once`: a program part that is whole and refused is refused before more is read. `in_time`: each line that had
+///   ended when the source was called last was answered, and its answer written.
 /// - `survives`: what a crash leaves of the store, at each moment of the call and at its end. `unwritten`: nothing is
 ///   written to the disk.
 /// - `caused`: why such a status came.
-/// - `completes`: if no device fails and there is room, the command comes to its end, or memory runs out.
+/// - `completes`: over at most 2^30 bytes, if no device fails and there is room, the command comes to its end; or the
+///   program part is refused, or memory runs out.
 /// - `refuses`: what is done where the bytes of the disk are no store; by `init`, where there are any.
 ///
 /// The other clauses hold whatever the words are. `usage`: words that name no command give the usage line. `statuses`:

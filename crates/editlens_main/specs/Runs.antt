@@ -22,7 +22,8 @@ pub record RunsScript {H S K : Type 0} (script : OfScript.Ghosts H) (source : Of
   -- the documents and the complement are in the lens's consistency relation, for `hub` each view is with the hub, and
   -- for `link` the link is in turns.
   pub reports : IsFinished status → Reports script source sink old new status
-  -- What was taken, at most 2^30 + 1 bytes, and written at every other status; what was answered is in step.
+  -- What was taken, at most 2^30 + 1 bytes, and written at every other status. What was answered is in step; behind the
+  -- end of the source the law of the script's runs says so.
   -- ProgramRefused comes as soon as the program part is whole: with the call of the source that ended its separator, or
   -- at the end of the source. After SourceFault and InputTooLong the answers to exactly the lines of the journal that
   -- have ended were written. After SinkFault and NoMemory every line that had ended when the source was called last was

@@ -43,6 +43,8 @@ use std::alloc::Global;
 ///   `reports` says it of a run.
 /// - `stops`: what was taken, written and stored at every status, or at every other one. `unstored`: when `undo` has
 ///   stored no snapshot.
+/// - `at_once`: a program part that is whole and refused is refused before more is read. `in_time`: each line that had
+///   ended when the source was called last was answered, and its answer written.
 /// - `survives`: what a crash leaves of the store, at each moment of the call and at its end. `unwritten`: nothing is
 ///   written to the disk.
 /// - `caused`: why such a status came.

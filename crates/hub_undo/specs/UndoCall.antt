@@ -1,5 +1,5 @@
 -- What the bytes of a disk are to `undo` of a hub, and what it comes to. Read it from the end: `UndoEnds`,
--- `IsSafeHubUndo`, `HubUndoesCall`, then `HubToUndo` or `RefusedHubToUndo`.
+-- `HubUndoesCall`, `IsSafeHubUndo`, then `HubToUndo` or `RefusedHubToUndo`.
 use Rattle.std.specs.Prelude.{◌≡◌, ◌⊎◌, ℕ, List, [], ◌∷◌, ◌++◌, Some}
 use Rattle.lens_io.specs.DiskRuns.{LeavesOnly}
 use Rattle.lens_io.specs.declared.disk.Disk as OfDisk

@@ -38,7 +38,8 @@ told_line n (stale k) = accepted_line n (codes "stale " ++ decimal k)
 told_line n restarted = accepted_line n (codes "restart")
 
 -- `refused N not-turn K`, `refused N no-apply AT CAUSE`, `refused N last-number`, `refused N no-batch` and
--- `refused N no-packet COUNT`. The last three are refusals of a site alone, and no event of a link is refused so.
+-- `refused N no-packet COUNT`. The others, `unfit`, `ahead` and `bad-batch`, are refusals of a site alone, and no
+-- event of a link is refused so.
 abbrev pub turn_refusal_line : ℕ → TurnRefusal → List ℕ
 turn_refusal_line n (not_turn k) = refused_line n (codes "not-turn " ++ decimal k)
 turn_refusal_line n (no_apply at cause) = no_apply_line n at cause

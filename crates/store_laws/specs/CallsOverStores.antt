@@ -32,7 +32,8 @@ held_on disk session d store = record {
 module _ {S K D A : Type 0} (source : OfSource.Ghosts S) (sink : OfSink.Ghosts K) (disk : OfDisk.Ghosts D)
     (session : OfSession.Ghosts A) where
   -- A call of `apply` over a store, as far as the laws need it: what it comes to at its end, and what a crash leaves of
-  -- it. These are clauses of the contract of every such call.
+  -- it. For a hub these are clauses of the contract of the call. A call for a pair may also run out of memory before it
+  -- calls a device; apply_laws has the same laws with that case.
   pub record AppliesOver (old new : Devices S K D) (status : Status) (store : Store disk session old.disk) : Type 0
     where
       pub continues : IsFinished status → ContinuesCall source sink disk session (old.source, old.sink) new store.payloads

@@ -2,8 +2,8 @@
 //! whatever session the store has.
 //!
 //! The contract of a call says what the call writes and stores, and what a crash leaves of it. The laws here put
-//! calls together. They hold for every [`StoredSession`] of which the number of an item changes the answer line alone,
-//! so of a pair and of a hub. Each function does nothing: its clauses are the laws.
+//! calls together. They hold for every [`StoredSession`] of which the number of an item changes the answer line alone.
+//! A pair and a hub are such sessions. Each function does nothing: its clauses are the laws.
 #![tactic(auto)]
 
 ghost use Rattle.command_ends.specs.Statuses.{IsFinished};

@@ -1,5 +1,5 @@
 -- What the command `import` makes of a script.
--- Read it from the end: `Imports`, `RefusesImport`, `import_command`, `Brings`, then `document_of_script`.
+-- Read it from the end: `RefusesImport`, `Imports`, `import_command`, `Brings`, then `document_of_script`.
 use Rattle.std.specs.Prelude.{◌≡◌, ℕ, ◌≤◌, List, [], ◌∷◌, ◌++◌, length, codes, Option, Some, None, Result, Ok, Err}
 use Rattle.std.specs.Prelude.{IfSome, if◌then◌else◌}
 use Rattle.lens_io.specs.Calls.{Took, IsRead, Gave}

@@ -1,5 +1,5 @@
 -- A command that stores one record behind those of a store: what it comes to, and what a crash leaves of it.
--- Read it from the end: `MoreEnds`, `IsSafeMore`, `StoresOne`, then `GoesTo`.
+-- Read it from the end: `IsSafeMore`, `ExitsMore`, `StoresOne`, then `GoesTo`.
 use Rattle.std.specs.Prelude.{◌≡◌, ◌⊎◌, ℕ, List, [], ◌∷◌, ◌++◌, None, Ok, IfSome}
 use Rattle.lens_io.specs.Calls.{Gave}
 use Rattle.lens_io.specs.DiskRuns.{LeavesOnly}

@@ -1,5 +1,5 @@
 -- The whole command `pack`: what it comes to, and what a crash leaves of it. Read it from the end: `EndsPack` for
--- each status, `IsSafePack`, then `PacksCall`.
+-- each status, `PacksCall`, then `IsSafePack`.
 use Rattle.std.specs.Prelude.{◌≡◌, ◌⊎◌, ℕ, List, [], ◌∷◌, ◌++◌, Option, None, Ok, option_to_list, IfSome}
 use Rattle.lens_io.specs.Calls.{Gave}
 use Rattle.lens_io.specs.DiskRuns.{LeavesOnly}

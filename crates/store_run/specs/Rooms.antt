@@ -1,5 +1,5 @@
 -- Why a command over a store ended so: the payload for which there was no room, and how many bytes were taken. Read
--- it from the end: `IsApplyCause` and `IsPackCause` by the status, then `RunHasNoRoom`, then `HasNoRoom`.
+-- it from the end: `IsPackCause` and `IsApplyCause` by the status, then `RunHasNoRoom`, then `HasNoRoom`.
 use Rattle.std.specs.Prelude.{◌≡◌, ℕ, ◌+◌, ◌-◌, ◌^◌, ◌<◌, ◌≤◌, List, [], ◌∷◌, ◌++◌, length, Option, Some}
 use Rattle.std.specs.Prelude.{option_to_list, IfSome}
 use Rattle.lens_io.specs.Calls.{Took}

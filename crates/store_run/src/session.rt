@@ -49,7 +49,7 @@ pub struct Opened<A> {
 pub enum ReopenFault {
     /// The record is not one that may stand there.
     BadRecord { number: u64 },
-    /// The record is a snapshot whose triple is not consistent.
+    /// The record is a snapshot whose documents and complements are not consistent.
     NotConsistent { number: u64 },
     /// Memory ran out, which says nothing of the payloads.
     NoMemory,
@@ -57,7 +57,7 @@ pub enum ReopenFault {
 
 /// A session that payloads can stand for: its calls, and the laws that tie them to the payloads.
 pub trait StoredSession: Sized {
-    /// What the payloads of a store stand for: the lens and its triple.
+    /// What the payloads of a store stand for: the lens and its triple, or the lenses of a hub and its documents.
     ghost State: { Type 0 };
 
     /// The state of this session.

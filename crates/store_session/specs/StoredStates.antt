@@ -1,7 +1,6 @@
 -- A session of the program as a store has it: its state, what payloads stand for, and the answer to a line. In order:
 -- `StoredState`, `stands_for` and `changes_counted`, `answer` with `IsStep`, `state_text`, `snapshot_text` with
--- `HasSnapshot`,
--- and all of them as `stored_session`.
+-- `HasSnapshot`, and all of them as `stored_session`.
 use Rattle.std.specs.Prelude.{◌≡◌, ℕ, List, true, Option, Some, None, option_map, Result, Ok, Err, if◌then◌else◌}
 use Rattle.std.specs.Prelude.{nat_eq, IfSome}
 use Rattle.serde_json.specs.Written.{compact_text}

@@ -43,7 +43,7 @@ module _ {K D : Type 0} (sink : OfSink.Ghosts K) (disk : OfDisk.Ghosts D) (old n
     pub takes_back : TakesBack before u
 
 module _ {D : Type 0} (disk : OfDisk.Ghosts D) (old new : D) where
-  -- An image that a crash now may leave represents the triple from before the call, or with the snapshot for the one
+  -- An image that a crash now may leave represents the triple from before the call or, with the snapshot, the one
   -- before the last changes. An image of a moment since the start of the call is one of those, or was possible then.
   pub record IsSafeUndo (before : List (List ℕ)) (u : Undoing) : Type 0 where
     pub now : (c : List ℕ) → disk.images new c → IsUndoneImage before u c
