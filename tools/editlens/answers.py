@@ -2,6 +2,7 @@
 
 from __future__ import annotations
 
+import copy
 from dataclasses import dataclass
 from typing import Any, Callable, Iterable, Sequence
 
@@ -108,15 +109,24 @@ class RunEnded(Exception):
 
     For a store that is kept open, `stored` is how many changes it had at the last answer. The change that was sent then is stored as well,
     or it is not: the count of the store, when it is opened again, is `stored` + 1 or `stored`.
+
+    Of the threads that share a client, each that waits gets one. `sent` is false where its own line was not sent.
     """
 
     stored: int | None = None
+    sent: bool = True
     answers: Sequence[Any] = ()
     """The answers of a call of many lines that came before."""
 
     def __init__(self, status: int | None) -> None:
         super().__init__(status)
         self.status = status
+
+    def unsent(self) -> RunEnded:
+        """The same, for a call whose line was not sent, since the run was lost before."""
+        other = copy.copy(self)
+        other.sent = False
+        return other
 
     def said(self) -> str:
         """What happened to the run."""
@@ -125,8 +135,11 @@ class RunEnded(Exception):
         return f"the program ended with status {self.status}: {STATUSES.get(self.status, 'unknown')}"
 
     def __str__(self) -> str:
+        unsent = "" if self.sent else "; this line was not sent"
         if self.stored is None:
-            return self.said()
+            return f"{self.said()}{unsent}"
+        if unsent:
+            return f"{self.said()}{unsent}. Open the store again, and send it again"
         certain = f"{self.stored} changes are stored for certain; the change that was sent may be stored too"
         return f"{self.said()}\n{certain}. Open the store again: it has {self.stored} or {self.stored + 1} changes"
 

@@ -42,6 +42,27 @@ def stored_program(path: str) -> str:
     return json.loads(payload.decode())["program"]
 
 
+class RunLock:
+    """The lock of a store that is kept open, for `with`.
+
+    Where the run is lost, RunEnded is raised in every thread that waits for the lock, and in each call until `reopen`. What such a call was
+    to send was not sent. `plain` is the lock alone.
+    """
+
+    def __init__(self, kept: KeptRun) -> None:
+        self._kept, self.plain = kept, threading.RLock()
+
+    def __enter__(self) -> None:
+        run = self._kept.last_run
+        self.plain.acquire()
+        if run and run.lost:
+            self.plain.release()
+            raise run.lost.unsent()
+
+    def __exit__(self, kind: type[BaseException] | None, value: BaseException | None, trace: TracebackType | None) -> None:
+        self.plain.release()
+
+
 class KeptRun:
     """A store that one run of `apply` keeps open. `_opened` reads what is known of it, `_taken` takes an answer over, and `_ended` the state."""
 
@@ -51,8 +72,11 @@ class KeptRun:
 
     def __init__(self, store: Any, wait: float = 0.0, timeout: float | None = None) -> None:
         self.store, self.path, self.wait, self.timeout = store, store.path, wait, timeout
-        self.lock = threading.RLock()
-        self.stored, self._number, self._run = 0, 0, None
+        self.lock = RunLock(self)
+        self.stored, self._number = 0, 0
+        self._run: Process | None = None
+        self.last_run: Process | None = None
+        """The run that keeps the store open, or the one that was lost. After `close` there is none."""
         self.reopen()
 
     def __enter__(self) -> Any:
@@ -71,7 +95,7 @@ class KeptRun:
 
     def reopen(self) -> int:
         """Opens the store again, after a run that was lost or after `close`, and returns how many changes it has."""
-        with self.lock:
+        with self.lock.plain:
             self._leave()
             self._run = self._until_free(lambda: self._started(time.monotonic() + self.wait))
             try:
@@ -79,6 +103,7 @@ class KeptRun:
             except BaseException:
                 self._leave()
                 raise
+            self.last_run = self._run
             return self.stored
 
     def _started(self, deadline):
@@ -138,7 +163,7 @@ class KeptRun:
                 said = self._run.ask(data)
                 answer = self.store.read(said)
             except RunEnded as why:
-                why.stored = self.stored
+                self._lose(self._run, why)
                 self._abandon()
                 raise
             self._number += 1
@@ -163,8 +188,9 @@ class KeptRun:
                 status, said = run.end()
                 self.store.judge(status, said)
             except RunEnded as why:
-                why.stored = self.stored
+                self._lose(run, why)
                 raise
+            self.last_run = None
             return self._ended(self.store.state(said))
 
     def _between(self, call):
@@ -186,6 +212,10 @@ class KeptRun:
                     raise
                 while is_busy(self.store.folder) and time.monotonic() < deadline:
                     time.sleep(PAUSE)
+
+    def _lose(self, run, why):
+        """Has every call that waits for a run, or comes before `reopen`, know why it was lost."""
+        why.stored, run.lost = self.stored, why
 
     def _abandon(self):
         self._run.stop()

@@ -28,9 +28,13 @@ class Process:
         self._in, self._out = self._stdin.fileno(), self.child.stdout.fileno()
         os.set_blocking(self._in, False)
         self._come, self._is_ended = bytearray(), False
+        self.lost: RunEnded | None = None
+        """Why the run was given up, where it was: each call that waits for it is told."""
 
     def ask(self, line: bytes) -> str:
         """Sends a line, as bytes without its line feed, and returns the line that answers it, with its line feed."""
+        if self._is_ended:
+            raise RunEnded(self._status()).unsent()
         self._exchange(line + b"\n", is_line_wanted=True)
         end = self._come.find(b"\n") + 1
         if not end:

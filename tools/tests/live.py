@@ -1,9 +1,12 @@
 """Clients that keep a run open: a store, a session, a link; and what they say when a run is lost."""
 
 import contextlib
+import linecache
 import os
+import sys
 import tempfile
 import threading
+import time
 
 from editlens import (
     DocumentsDiffer,
@@ -155,6 +158,70 @@ def test_a_program_that_is_lost():
         store.__exit__(None, None, None)
         assert not store.is_open and store.reopen() == why.stored
         assert store.left(ADD).number == 2 and store.documents["right"] == {"b": 2}
+
+
+def is_waiting(thread):
+    """Whether a thread waits for the lock of a client."""
+    frame = sys._current_frames().get(thread.ident)
+    return frame is not None and linecache.getline(frame.f_code.co_filename, frame.f_lineno).strip() in ("self.plain.acquire()", "with self.lock:")
+
+
+def all_told(client, send, lose):
+    """Four threads that wait for a client whose run is lost meanwhile: the RunEnded of each, and that of the call that loses it."""
+    whys = []
+    threads = [threading.Thread(target=lambda: whys.append(raised(RunEnded, send))) for _ in range(4)]
+    with client.lock:
+        for it in threads:
+            it.start()
+        until = time.monotonic() + PATIENCE
+        while not all(map(is_waiting, threads)) and time.monotonic() < until:
+            time.sleep(0.01)
+        lose()
+        first = raised(RunEnded, send)
+        if not isinstance(client, Session):
+            assert client.reopen() == first.stored
+    for it in threads:
+        it.join()
+    return whys, first
+
+
+def test_every_thread_that_waits_knows_that_the_run_is_lost():
+    """Also where another thread has opened the store again: what they were to send was not sent, and is not sent later."""
+    with kept() as store:
+        store.left(ADD)
+        whys, first = all_told(store, lambda: store.left(ADD), store._run.child.kill)
+        assert first.sent and [(it.sent, it.stored, it.status) for it in whys] == [(False, 1, -9)] * 4
+        assert "signal 9; this line was not sent. Open the store again" in str(whys[0])
+        assert store.stored == 1 and store.left(ADD).number == 2 and store.stored == 2
+    session = Session(PROGRAM)
+    whys, first = all_told(session, lambda: session.left(ADD), session.process.child.kill)
+    assert first.sent and [(it.sent, it.stored, it.status) for it in whys] == [(False, None, -9)] * 4
+    assert str(whys[0]).endswith("signal 9; this line was not sent") and session.documents["right"] == {"b": 0}
+
+
+def test_each_call_knows_that_the_run_is_lost_until_the_store_is_opened_again():
+    with lost('IFS= read -r probe; echo "refused 1 not-an-entry"; IFS= read -r line; exec sleep 3600', timeout=0.5) as store:
+        assert raised(NoAnswer, lambda: store.left(ADD)).sent
+        for call in (lambda: store.left(ADD), lambda: store.group(("left", ADD)), store.undo, store.pack, store.compare, store.close):
+            why = raised(NoAnswer, call)
+            assert not why.sent and why.stored == 0 and "within 0.5 seconds, and the run was stopped; this line was not sent" in str(why)
+        assert store.reopen() == 0
+    with kept() as store:
+        store.close()
+        assert "reopen" in str(raised(ValueError, lambda: store.left(ADD)))
+        store.reopen()
+
+
+def test_what_stands_behind_a_wrong_answer_is_no_answer():
+    with tempfile.TemporaryDirectory() as folder:
+        path = os.path.join(folder, "program")
+        with open(path, "w", encoding="utf-8") as file:
+            said = 'printf "yes\\nok 1 right []\\n"; exec sleep 3600'
+            file.write(f'#!/bin/bash\n[ "$1" = run ] || exec {os.environ["EDITLENS"]} "$@"\n{said}\n')
+        os.chmod(path, 0o755)
+        session = Session(PROGRAM, path)
+        assert raised(NotAnAnswer, lambda: session.left(ADD)).sent
+        assert not raised(RunEnded, lambda: session.left(ADD)).sent
 
 
 def test_an_answer_that_is_lost():
