@@ -65,7 +65,7 @@ class Replacement:
         self._lock.give_back()
 
     def _clear(self):
-        if os.path.islink(self.work) or os.path.isfile(self.work):
+        if os.path.lexists(self.work) and (os.path.islink(self.work) or not os.path.isdir(self.work)):
             raise NotDone(f"{self.work} is in the way: it is not the folder in which the new file of a store is made, so move it away")
         if os.path.lexists(self.work):
             shutil.rmtree(self.work)

@@ -4,8 +4,10 @@ import contextlib
 import fcntl
 import json
 import os
+import shutil
 import stat
 import subprocess
+import sys
 import tempfile
 import threading
 from unittest import mock
@@ -19,10 +21,11 @@ from editlens.store import NAME, Store, StoreRefused
 from editlens.store_file import UnsafeFile, need_one_name
 from editlens.upkeep import back, compact, drop_old, history
 
-from . import PATIENCE
+from . import PATIENCE, Skipped
 from .locks import answer, content, need_state, program, refused_at_once, started
 from .scripts import called, files
 from .stores import raised
+from .upkeep import writing_calls
 
 PROGRAM = "main {count ~ number: id int, left note: text}\n"
 ADD = '{"side":"left","edit":[{"at":["count",[{"add":1}]]}]}'
@@ -60,6 +63,44 @@ def test_no_command_writes_by_a_second_name():
                     refused_at_once(store, words)
             assert second.show() == store.show() and second.verify() == 1
         assert store.pack() == 1
+
+
+MOUNTED = """
+import os, subprocess, sys
+program, store, other, line = sys.argv[1:]
+file = os.path.join(store, "editlens.store")
+def run(folder, *words):
+    ran = subprocess.run([program, *words], cwd=folder, input=line.encode() + b"\\n", stdout=subprocess.PIPE)
+    return ran.returncode, ran.stdout[:5].decode()
+for here, there in ((store, other), (other, store)):
+    with subprocess.Popen([program, "apply"], cwd=here, stdin=subprocess.PIPE, stdout=subprocess.PIPE, bufsize=0) as running:
+        running.stdin.write(line.encode() + b"\\n")
+        print(running.stdout.readline()[:5].decode(), run(there, "apply"), run(there, "pack"), run(there, "verify"))
+print(run(other, "apply"))
+copy = file + ".copy"
+with open(file, "rb") as source, open(copy, "xb") as made:
+    made.write(source.read())
+os.replace(copy, file)
+print(run(other, "apply"), run(other, "verify"), run(store, "apply"))
+"""
+"""Two programs, by the folder of a store and by another one into which its file alone is mounted. Then a new file takes its place, as tools do."""
+
+
+def test_a_file_that_is_mounted_into_another_folder():
+    """A mount is a second name that no count of names shows: the lock on the file is what keeps two programs apart."""
+    unshare = shutil.which("unshare")
+    own = [unshare, "--map-root-user", "--mount"] if os.geteuid() else [unshare, "--mount"]
+    if not unshare or subprocess.run([*own, "true"], stderr=subprocess.DEVNULL, check=False).returncode:
+        raise Skipped("no process may have mounts of its own here")
+    with two_folders() as (store, other):
+        with open(os.path.join(other, NAME), "wb"):
+            pass
+        inside = ["sh", "-c", 'mount --bind "$1" "$2" && shift 2 && exec "$@"', "sh", store.file, os.path.join(other, NAME)]
+        words = [sys.executable, "-c", MOUNTED, program(), store.folder, other, ADD]
+        ran = subprocess.run([*own, *inside, *words], stdout=subprocess.PIPE, text=True, check=True)
+        held = "ok 1  (7, '') (7, '') (0, 'consi')"
+        assert ran.stdout.splitlines() == [held, held, "(0, 'ok 1 ')", "(7, '') (0, 'consi') (0, 'ok 1 ')"], ran.stdout
+        need_state(store, 5)
 
 
 def test_what_a_run_has_answered_is_not_lost_by_a_second_name():
@@ -218,16 +259,19 @@ def test_a_script_that_waits_finds_the_store_free():
 
 
 def test_what_is_in_the_way_of_a_new_file_is_named():
-    for kind in ("file", "link"):
-        with two_folders() as (store, other):
-            work = os.path.join(store.folder, WORK)
+    """By each verb that writes. What is there stays, and so does what a link leads to."""
+    for kind in ("file", "link", "pipe"):
+        with two_folders() as (store, other), tempfile.TemporaryDirectory() as copies:
+            work, before = os.path.join(store.folder, WORK), content(store)
             if kind == "link":
                 os.symlink(other, work)
+            elif kind == "pipe":
+                os.mkfifo(work)
             else:
                 files(store.folder, **{WORK: "kept"})
-            for call in (lambda: compact(store.folder), lambda: back(store.folder, 1)):
-                assert f"{work} is in the way" in str(raised(NotDone, call))
-            assert os.path.lexists(work) and os.listdir(other) == [] and store.verify() == 1
+            for name, call in writing_calls(store, copies).items():
+                assert f"{work} is in the way" in str(raised(NotDone, call)), (kind, name)
+            assert os.path.lexists(work) and os.listdir(other) == [] and content(store) == before
 
 
 def test_an_option_may_stand_before_the_folder():
@@ -266,6 +310,25 @@ def test_a_record_that_claims_more_than_the_file_has():
                 ran = subprocess.run(limited, cwd=store.folder, stdout=subprocess.PIPE, text=True, check=False)
                 assert (ran.returncode, ran.stdout) == (4, "store refused: bad-record 3\n"), (length, ran)
             assert raised(StoreRefused, lambda: list(history(store.folder))).reason == "bad-record 3"
+
+
+def test_a_record_that_a_sparse_file_has():
+    """A file without blocks on the disk is as long as a length says. The program asks for memory for the record, and says that it gets none."""
+    with two_folders() as (store, _):
+        end, length = os.path.getsize(store.file) - 1, 2**40
+        with open(store.file, "r+b") as file:
+            file.seek(end)
+            file.write(b"\x01" + length.to_bytes(8, "little"))
+            try:
+                file.truncate(end + 9 + length + 1)
+            except OSError:
+                raise Skipped("no file may be that long here") from None
+        for words in ("show", "verify", "pack"):
+            how = {"cwd": store.folder, "env": {**os.environ, "EDITLENS_MEMORY": "256"}, "stdin": subprocess.DEVNULL, "capture_output": True}
+            ran = subprocess.run([os.path.join(TOP, "editlens"), words], text=True, check=False, **how)
+            assert (ran.returncode, ran.stdout) == (9, "") and "may have 256 MiB" in ran.stderr, (words, ran)
+        status, out, err = called(store.folder, "store", "history")
+        assert status == 2 and out.count("\n") == 2 and "a record has no more than 1,073,741,824" in err and err.count("\n") == 1, (status, out, err)
 
 
 def test_a_mounted_file_whose_name_leads_to_another_one():
