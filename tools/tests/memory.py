@@ -5,6 +5,7 @@ import resource
 import subprocess
 import tempfile
 
+from editlens.log import write_log
 from editlens.program import TOP
 from editlens.store import Store
 
@@ -13,19 +14,40 @@ MOST = 128
 """How many MiB the program may have. It has more for a moment where its runtime looks at that from time to time, as the unproved one does."""
 
 
+def many(times):
+    """An edit that makes 65,536 items so many times: each is 14 bytes, and takes some MiB."""
+    return "[" + ",".join(['{"ins":65536}'] * times) + "]"
+
+
 def line(times):
-    """A line that makes 65,536 items so many times: each is 14 bytes, and takes some MiB."""
-    return '{"side":"left","edit":[' + ",".join(['{"ins":65536}'] * times) + "]}\n"
+    return f'{{"side":"left","edit":{many(times)}}}\n'
+
+
+def limited(name, command, folder, given="", **more):
+    """A run of ./editlens or ./edithub with a limit of memory: its status, what it writes and what it says."""
+    how = {"cwd": folder, "env": {**os.environ, "EDITLENS_MEMORY": str(MOST), **more}, "capture_output": True, "text": True, "check": False}
+    ran = subprocess.run([os.path.join(TOP, name), command], input=given, **how)
+    assert resource.getrusage(resource.RUSAGE_CHILDREN).ru_maxrss < 3 * MOST * 1024
+    assert (ran.returncode == 9) == (f"may have {MOST} MiB" in ran.stderr), ran.stderr
+    return ran.returncode, ran.stdout
 
 
 def test_a_line_that_asks_for_too_much_memory():
     with tempfile.TemporaryDirectory() as folder:
         store, small = Store.init(folder, PROGRAM), '{"side":"left","edit":[{"ins":3}]}\n'
-        how = {"cwd": folder, "env": {**os.environ, "EDITLENS_MEMORY": str(MOST)}, "capture_output": True, "text": True, "check": False}
-        ran = subprocess.run([os.path.join(TOP, "editlens"), "apply"], input=small + line(60), **how)
-        assert ran.returncode == 9 and ran.stdout.startswith("ok 1 ") and ran.stdout.count("\n") == 1, (ran.returncode, ran.stdout[:200])
-        assert f"may have {MOST} MiB" in ran.stderr, ran.stderr
-        assert resource.getrusage(resource.RUSAGE_CHILDREN).ru_maxrss < 3 * MOST * 1024
-        ran = subprocess.run([os.path.join(TOP, "editlens"), "apply"], input=small, **how)
-        assert ran.returncode == 0 and ran.stdout.startswith("ok 1 "), ran
+        status, out = limited("editlens", "apply", folder, small + line(60))
+        assert status == 9 and out.startswith("ok 1 ") and out.count("\n") == 1, (status, out[:200])
+        status, out = limited("editlens", "apply", folder, small)
+        assert status == 0 and out.startswith("ok 1 "), (status, out[:200])
         assert store.verify() == 2 and store.show()[0] == [0] * 6
+
+
+def test_a_store_that_asks_for_too_much_memory():
+    """A store by another hand has the change already. Reading it ends with the status too, and writes nothing."""
+    with tempfile.TemporaryDirectory() as folder:
+        store = Store(folder)
+        write_log(store.file, [b'{"program":"main each id int","version":2}', f'{{"entry":{line(60)[:-1]}}}'.encode()])
+        assert os.path.getsize(store.file) < 1000
+        for command in ("show", "verify", "pack", "apply"):
+            assert limited("editlens", command, folder) == (9, ""), command
+        assert os.path.getsize(store.file) < 1000
