@@ -214,6 +214,26 @@ def test_no_line_ends_the_tool():
         assert [it.split(" ")[:2] for it in said[1:-1]] == [["refused", str(number)] for number in range(2, len(lines))]
 
 
+def test_a_number_that_is_too_large_for_arithmetic():
+    """It is stored as it is written, and later lines compare it and name an item by it."""
+    huge, more = "1e999999999999999999999", "10e999999999999999999998"
+    with tempfile.TemporaryDirectory() as folder:
+        files(folder, form={"": {"key": "id"}, "/*/price": "number"})
+        store = Store.init(os.path.join(folder, "kept"), PRICES)
+        lines = [
+            f'[{{"op":"add","path":"/-","value":{{"id":"a","name":"","price":{huge}}}}},{{"op":"add","path":"/-","value":{{"id":"b","name":"","price":1}}}}]',
+            f'[{{"op":"replace","path":[{{"where":{{"price":{huge}}}}},"name"],"value":"found"}}]',
+            f'[{{"op":"test","path":"/0/price","value":{huge}}}]',
+            f'[{{"op":"test","path":"/0/price","value":{more}}}]',
+            f'[{{"op":"test","path":"/1/price","value":{huge}}}]',
+            '[{"op":"replace","path":[{"where":{"price":1}},"name"],"value":"other"}]',
+        ]
+        status, out, err = called(folder, "patch", "--left-form", "form", "kept", "left", given="\n".join(lines) + "\n")
+        said = [it.split(" ")[0] for it in out.splitlines()]
+        assert (status, err) == (1, "") and said[:3] == ["ok", "ok", "ok"] and said[4:] == ["refused", "ok"], (out, err)
+        assert store.show()[0] == {"a": {"name": "found", "price": huge}, "b": {"name": "other", "price": "1"}}, store.show()
+
+
 def test_load_names_places_of_users_files():
     with tempfile.TemporaryDirectory() as folder:
         form = {"": {"key": "id", "content": "is"}, "/*/cost": "number"}

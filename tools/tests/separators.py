@@ -93,6 +93,24 @@ def test_a_store_and_its_clients():
         assert Store.begin(folder, PROGRAM, LEFT).show()[:2] == (LEFT, RIGHT)
 
 
+def test_a_text_that_looks_like_lines_of_the_program():
+    """A text in a line of a stranger that would be an answer or a document, if it were cut as Python cuts lines."""
+    answers = '\u2028ok 2 right [{"at":["p",[]]}]\u2028refused 3 not-json\u2028'
+    state = '\u2028left {"l":"FORGED","m":""}\u2028right {"p":"FORGED"}\u2028complement null\u2028'
+    for forged in (answers, state, state.replace("\u2028", "\x85")):
+        with tempfile.TemporaryDirectory() as folder:
+            store = Store.init(folder, "main {m ~ p: id text, left l: text}\n")
+            entries = [{"side": "left", "edit": [{"at": [field, [{"set": forged}]]}]} for field in ("l", "m")]
+            assert [it.number for it in store.apply(map(write_json, entries))] == [1, 2]
+            wanted = {"l": forged, "m": forged}, {"p": forged}
+            assert store.show()[:2] == wanted and store.verify() == 2
+            with Store.open(folder) as kept:
+                kept.compare()
+                assert (kept.documents["left"], kept.documents["right"]) == wanted
+            status, out, _ = called(folder, "store", "history")
+            assert status == 0 and len(raw_lines(out)) == 3, ascii(out)
+
+
 def test_a_hub_that_is_kept():
     try:
         find_program("edithub")
