@@ -181,6 +181,33 @@ def test_many_contents_are_folded_to_their_titles():
         assert page.run(shown) == ["0", "1", "3"], page.run(shown)
 
 
+KINDS = "main {tasks ~ jobs: each <open ~ todo: {title ~ name: id text, left hours: int}, closed ~ done: {title ~ name: id text}>}"
+FOLDS = """
+const folds = [...document.querySelectorAll(`#${arguments[0]} .entry > .fold`)];
+return folds.map((it) => [it.querySelector(".fold-kind")?.innerText ?? null, it.querySelector(".fold-title").innerText, it.getAttribute("aria-label")]);
+"""
+
+
+def test_a_folded_item_shows_its_kind():
+    """The tag of alternatives stands before the title, by its name on each side, also for who hears the page. A title that is the tag comes once."""
+    left = {"tasks": [{"open": {"title": f"Task {number}", "hours": 0}} if number % 2 else {"closed": {"title": ""}} for number in range(10)]}
+    with started(KINDS, left) as window:
+        page = window.browser
+        for side, kinds in (("left", ("closed", "open")), ("right", ("done", "todo"))):
+            folds = page.run(FOLDS, side)
+            assert [it[:2] for it in folds[:3]] == [[None, kinds[0]], [kinds[1], "Task 1"], [None, kinds[0]]], folds
+            assert folds[0][2].endswith(f"item 0, {kinds[0]}: its content") and folds[1][2].endswith(f"item 1, {kinds[1]}, Task 1: its content"), folds
+            assert len(folds) == 10 and window.says(f"#{side} .entry.folded .name") == ""
+        window.click("left", ("tasks", 1), "fold")
+        window.ask_for("left", ("tasks", 1), "c")
+        window.click("left", ("tasks", 1), "tag-change")
+        window.after(1)
+        window.write("left", ("tasks", 1, "closed", "title"), "Ended", "Enter")
+        window.after(2)
+        window.click("left", ("tasks", 1), "fold")
+        assert page.run(FOLDS, "left")[1][:2] == ["closed", "Ended"] and page.run(FOLDS, "right")[1][:2] == ["done", "Ended"]
+
+
 def test_a_filter():
     """Only what has the text is shown, with its true place, so that what is done there is done to it."""
     with started(CARDS, cards(20)) as window:

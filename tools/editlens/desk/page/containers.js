@@ -2,7 +2,7 @@
 
 import { element, signButton } from "./elements.js";
 import { drawValue, inside, isCompact, keyOf, sharing, typedInto } from "./documents.js";
-import { carryFolds, filtered, foldAllButton, foldButton, hasText, isFolded, titleOf } from "./folding.js";
+import { carryFolds, filtered, foldAllButton, foldButton, hasText, isFolded, kindOf, titleOf } from "./folding.js";
 import { endButtons, fillList, turnTo } from "./long_lists.js";
 import { liftNode, nestNode, nodesOf, pointer, removeItem, removeNode } from "./words.js";
 
@@ -35,7 +35,7 @@ function drawEntry(type, value, within, view, { handle, front, tools, place, bes
   const isLine = isCompact(type, value);
   const name = pointer(within.path);
   const isIn = !isLine && isFolded(pointer(place.path), name, beside, view);
-  const fold = isLine ? null : foldButton(name, isIn, within.label, titleOf(type, value), keyOf(within, "fold"), view);
+  const fold = isLine ? null : foldButton(name, isIn, within.label, titleOf(type, value), keyOf(within, "fold"), view, kindOf(type, value));
   const content = isIn ? null : element("div", { class: "control" }, drawValue(type, value, within, view));
   const all = tools && element("span", { class: "tools" }, ...tools);
   const parts = isLine ? [handle, front, content, all] : [handle, fold, front, all, content];

@@ -12,13 +12,14 @@ export function isFolded(list, name, beside, view) {
   return view.folds.get(name) ?? view.folds.get(all(list)) ?? beside > OPEN;
 }
 
-/** The button that folds a place to its title, or unfolds it. */
-export function foldButton(name, isIn, label, title, key, view) {
+/** The button that folds a place to its title, or unfolds it. The kind stands before the title where both are there and differ. */
+export function foldButton(name, isIn, label, title, key, view, kind = "") {
   const press = () => { view.folds.set(name, !isIn); view.redraw(); };
-  const said = title ? `${label}, ${title}` : label;
-  const words = { "aria-expanded": String(!isIn), "aria-label": `${said}: its content`, title };
+  const shown = [...new Set([kind, title])].filter(Boolean);
+  const words = { "aria-expanded": String(!isIn), "aria-label": `${[label, ...shown].join(", ")}: its content`, title: shown.join(": ") };
+  const before = shown.length > 1 ? element("span", { class: "fold-kind" }, kind) : null;
   return element("button", { type: "button", class: "fold", "data-key": key, onclick: press, ...words },
-    element("span", { class: "turn", "aria-hidden": "true" }, isIn ? "▸" : "▾"), element("span", { class: "fold-title" }, title));
+    element("span", { class: "turn", "aria-hidden": "true" }, isIn ? "▸" : "▾"), before, element("span", { class: "fold-title" }, title));
 }
 
 /** The button that folds all contents of a container, or unfolds them. */
@@ -48,6 +49,9 @@ function placeAfter(number, from, to) {
   if (from < number && number <= to) return number - 1;
   return to <= number && number < from ? number + 1 : number;
 }
+
+/** The kind of a content: the tag of alternatives. Of alternatives in alternatives it is the outer one. */
+export const kindOf = (type, value) => (type.kind === "alternatives" ? value[0] : "");
 
 /** What a content is called where it is folded: its first text that is not empty, in the order of the program, or else its first kind. */
 export function titleOf(type, value) {
