@@ -5,9 +5,12 @@ import resource
 import subprocess
 import tempfile
 
+from editlens import HubStore, NoProgram, find_program
 from editlens.log import write_log
 from editlens.program import TOP
 from editlens.store import Store
+
+from . import Skipped
 
 PROGRAM = "main each id int\n"
 MOST = 128
@@ -51,3 +54,16 @@ def test_a_store_that_asks_for_too_much_memory():
         for command in ("show", "verify", "pack", "apply"):
             assert limited("editlens", command, folder) == (9, ""), command
         assert os.path.getsize(store.file) < 1000
+
+
+def test_a_line_for_a_hub_that_asks_for_too_much_memory():
+    try:
+        program = find_program("edithub")
+    except NoProgram:
+        raise Skipped("there is no program edithub") from None
+    with tempfile.TemporaryDirectory() as folder:
+        store = HubStore.init(folder, [PROGRAM, PROGRAM])
+        small, large = '{"at":"hub","edit":[{"ins":3}]}\n', f'{{"at":"hub","edit":{many(60)}}}\n'
+        status, out = limited("edithub", "apply", folder, small + large, EDITHUB=program)
+        assert status == 9 and out.startswith("ok 1 ") and out.count("\n") == 1, (status, out[:200])
+        assert store.verify() == 1 and store.show().hub == [0] * 3

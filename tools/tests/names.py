@@ -22,6 +22,7 @@ from editlens.store_file import UnsafeFile, need_one_name
 from editlens.upkeep import back, compact, drop_old, history
 
 from . import PATIENCE, Skipped
+from .hub_stores import MORE, made
 from .locks import answer, content, need_state, program, refused_at_once, started
 from .scripts import called, files
 from .stores import raised
@@ -63,6 +64,31 @@ def test_no_command_writes_by_a_second_name():
                     refused_at_once(store, words)
             assert second.show() == store.show() and second.verify() == 1
         assert store.pack() == 1
+
+
+def test_no_command_of_a_hub_writes_by_a_second_name():
+    """`edithub` has the same rule for its own store, and so has a program that waits for an edit while the second name is made."""
+    with tempfile.TemporaryDirectory() as top:
+        store, other = made(os.path.join(top, "hub")), os.path.join(top, "other")
+        os.mkdir(other)
+        line, name = json.dumps({"at": "hub", "edit": []}) + "\n", os.path.basename(store.file)
+        before = content(store)
+        for link in (os.symlink, os.link):
+            link(store.file, os.path.join(other, name))
+            for words, given in ((["init"], MORE), (["apply"], line), (["pack"], ""), (["undo", "1"], ""), (["add"], MORE)):
+                for folder in (other,) if link is os.symlink else (other, store.folder):
+                    ran = subprocess.run([store.path, *words], cwd=folder, input=given, stdout=subprocess.PIPE, text=True, check=False)
+                    assert (ran.returncode, ran.stdout, content(store)) == (7, "", before), (words, folder, ran)
+            assert subprocess.run([store.path, "verify"], cwd=other, stdout=subprocess.PIPE, check=True).stdout == b"consistent 0\n"
+            os.remove(os.path.join(other, name))
+        with subprocess.Popen([store.path, "apply"], cwd=store.folder, stdin=subprocess.PIPE, stdout=subprocess.PIPE, bufsize=0) as running:
+            running.stdin.write(line.encode())
+            assert running.stdout.readline().startswith(b"ok 1 ")
+            os.link(store.file, os.path.join(other, name))
+            running.stdin.write(line.encode())
+            assert running.stdout.readline() == b"" and running.wait(PATIENCE) == 7
+        os.remove(os.path.join(other, name))
+        assert store.verify() == 1
 
 
 MOUNTED = """
