@@ -107,9 +107,10 @@ once-from n before (k ∷ ks) h =
 others-more : (k : ℕ) (ks before : List ℕ) → AreOthers ks before → has_number k ks ≡ false → AreOthers ks (k ∷ before)
 others-more k [] before h p = tt
 others-more k (j ∷ ks) before h p =
-    let w = both-false (nat_eq k j) (has_number k ks) p in
-    (or-false (nat_eq j k) (has_number j before) (not-true (nat_eq j k) (λ e. not-both (nat_eq k j) (eq-so k j (sym (eq-is j k e))) w.0)) h.0,
-     others-more k ks before h.1 w.1)
+    let w = both-false (nat_eq k j) (has_number k ks) p in (
+      or-false (nat_eq j k) (has_number j before) (not-true (nat_eq j k) (λ e. not-both (nat_eq k j) (eq-so k j (sym (eq-is j k e))) w.0)) h.0,
+      others-more k ks before h.1 w.1,
+    )
 
 -- ---- the places of items
 

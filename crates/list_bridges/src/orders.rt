@@ -41,12 +41,7 @@ impl ListBridge {
 
 // The order of the far list: its items that the near list has too stand in the order of these near items, at the places
 // that they have among them.
-fn far_order(
-    alloc: Global,
-    links: &Links,
-    items: &[u64],
-    far: u64,
-) -> Result<Vec<u64>, AllocError>
+fn far_order(alloc: Global, links: &Links, items: &[u64], far: u64) -> Result<Vec<u64>, AllocError>
     ensures { IfOk result (λ order. order.items ≡ far_order far links.now items.now) }
 {
     let mine = far_places(alloc, links, items, far)?;
@@ -56,12 +51,7 @@ fn far_order(
 
 // The far places of near items, in order.
 #[tactic(auto, using(crate::proofs::OrderSteps::place_rules))]
-fn far_places(
-    alloc: Global,
-    links: &Links,
-    items: &[u64],
-    far: u64,
-) -> Result<Vec<u64>, AllocError>
+fn far_places(alloc: Global, links: &Links, items: &[u64], far: u64) -> Result<Vec<u64>, AllocError>
     ensures { IfOk result (λ places. places.items ≡ far_places far links.now items.now) }
 {
     let mut places = Vec::new(alloc);
