@@ -1,0 +1,12 @@
+pub mod Facts
+pub mod Sorting
+pub mod SortedMembers
+pub mod Telling
+pub mod IntTexts
+pub mod Contents
+pub mod WriteReads
+pub mod ReadWrites
+pub mod ReadAlike
+pub mod WrittenTypes
+pub mod ComesBack
+pub mod FormNames

@@ -1,0 +1,120 @@
+//! Files as bytes and forms as values, a row each.
+
+use file_forms::{FileForm, Literal};
+use file_trees::{FileFault, read_file, write_file};
+use std::alloc::{AllocError, Global};
+use std::test::Fail;
+use texts::{Name, Str};
+
+// What is written of the tree of a file.
+fn rewritten(alloc: Global, bytes: &[u8]) -> Result<Vec<u8>, Fail> {
+    let tree = read_file(alloc, bytes)?;
+    let written = write_file(alloc, &tree);
+    drop(tree);
+    Ok(written?)
+}
+
+// Why the bytes are not a file. It fails if they are one.
+fn refusal(alloc: Global, bytes: &[u8]) -> Result<FileFault, Fail> {
+    match read_file(alloc, bytes) {
+        Ok(tree) => {
+            drop(tree);
+            return Err("the bytes are a file")?;
+        }
+        Err(fault) => Ok(fault),
+    }
+}
+
+// The text of an array in arrays, as many as `levels`.
+fn nested(alloc: Global, levels: usize) -> Result<Vec<u8>, Fail> {
+    let mut text = Vec::new(alloc);
+    for _ in 0..levels {
+        text.push(b'[')?;
+    }
+    for _ in 0..levels {
+        text.push(b']')?;
+    }
+    Ok(text)
+}
+
+#[test]
+fn written_again(rt: HostRuntime) -> Result<(), Fail> {
+    for (text, wanted) in [
+        // Numbers keep their letters.
+        (
+            " [1.50, -0 ,1e400,\t100000000000000000000000]\n",
+            "[1.50,-0,1e400,100000000000000000000000]",
+        ),
+        // Members keep their order.
+        (
+            "{\"b\":1, \"a\" : {\"d\":null,\"c\":[true,false]}}",
+            "{\"b\":1,\"a\":{\"d\":null,\"c\":[true,false]}}",
+        ),
+        // Escapes are the shortest.
+        ("[\"\\u0061\\/\\n\\u0001\",\"\"]", "[\"a/\\n\\u0001\",\"\"]"),
+        ("[ {} , [ ] ]", "[{},[]]"),
+    ] {
+        let bytes = rewritten(rt.alloc(), text.as_bytes())?;
+        assert_eq!(rt; bytes.as_slice(), wanted.as_bytes());
+    }
+    Ok(())
+}
+
+#[test]
+fn refused(rt: HostRuntime) -> Result<(), Fail> {
+    for (bytes, wanted) in [
+        (b"\"\xff\"".as_slice(), FileFault::NotUtf8),
+        (b"[1,]".as_slice(), FileFault::NotJson),
+        (b"\xef\xbb\xbf[]".as_slice(), FileFault::NotJson),
+        (b"".as_slice(), FileFault::NotJson),
+        (b"{\"a\":1,\"\\u0061\":2}".as_slice(), FileFault::NameTwice),
+    ] {
+        assert!(rt; refusal(rt.alloc(), bytes)? == wanted);
+    }
+    Ok(())
+}
+
+#[test]
+fn levels(rt: HostRuntime) -> Result<(), Fail> {
+    let alloc = rt.alloc();
+    let deep = nested(alloc, 129)?;
+    assert!(rt; refusal(alloc, deep.as_slice())? == FileFault::NotJson);
+    let allowed = nested(alloc, 128)?;
+    let bytes = rewritten(alloc, allowed.as_slice())?;
+    assert_eq!(rt; bytes.as_slice(), allowed.as_slice());
+    Ok(())
+}
+
+// A tag with a form.
+fn tag(alloc: Global, name: &str, form: FileForm) -> Result<(Name, FileForm), AllocError> {
+    Ok((Name::from_string(String::from_str(alloc, name)?), form))
+}
+
+// Whether alternatives of two tags, as their contents alone, are fit. The second tag has the name.
+fn is_fit(
+    alloc: Global,
+    first: FileForm,
+    name: &str,
+    second: FileForm,
+) -> Result<bool, AllocError> {
+    let first = tag(alloc, "a", first)?;
+    let second = tag(alloc, name, second)?;
+    let form = FileForm::Bare(vec![in alloc; first, second]?);
+    let fit = form.is_fit();
+    drop(form);
+    Ok(fit)
+}
+
+#[test]
+fn contents_alone(rt: HostRuntime) -> Result<(), Fail> {
+    let alloc = rt.alloc();
+    let null = || FileForm::Literal(Literal::Null);
+    let gone = || FileForm::Literal(Literal::Gone);
+    let text = || FileForm::Text(Str::empty(alloc));
+    assert!(rt; is_fit(alloc, null(), "b", gone())?);
+    assert!(rt; is_fit(alloc, FileForm::Bool, "b", FileForm::Int(0))?);
+    assert!(rt; !is_fit(alloc, FileForm::Bool, "a", FileForm::Int(0))?);
+    assert!(rt; !is_fit(alloc, FileForm::Int(1), "b", FileForm::Number(Str::empty(alloc)))?);
+    assert!(rt; is_fit(alloc, text(), "b", null())?);
+    Ok(())
+}
