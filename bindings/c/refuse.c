@@ -1,7 +1,10 @@
 /* Each request for memory is refused once, over a script: the linker puts the functions here in the place of malloc, realloc and free.
 
    A call that finds no memory must say so and leave the session as before: it is made again, and the report is to be the same as in a run in
-   which nothing was refused. At the end nothing may be left. */
+   which nothing was refused. At the end nothing may be left.
+
+   There is a run for each request. With the word `once` behind the script there is one run, in which each call is made again until each of its
+   requests was refused: that is quick enough for a sanitizer. */
 #include "editlens.h"
 
 #include <stdio.h>
@@ -39,7 +42,17 @@ void __wrap_free(void *block) {
 enum { ROOM = 1 << 20 };
 static char script[ROOM], wanted[ROOM], found[ROOM], state[3][ROOM], logged[ROOM];
 static char room[8192] __attribute__((aligned(16)));
-static long refusals;
+static long refusals, tried;
+static int is_once, is_aimed;
+
+/* Whether a call is to be made again, since it found no memory, which is counted. With `once` the request that is refused next is the first of
+   another call, or the one behind that of this call. */
+static int is_again(int found_none) {
+    refusals += found_none;
+    tried = found_none ? tried + 1 : 0;
+    left = is_once && is_aimed ? tried : left;
+    return found_none;
+}
 
 static size_t text_to(char *out) {
     struct editlens_answer answer = editlens_session_text(room, (uint8_t *)out, ROOM / 4);
@@ -51,9 +64,9 @@ static size_t text_to(char *out) {
 
 static size_t show_to(char *out, uint32_t part) {
     struct editlens_answer answer;
-    while ((answer = editlens_session_show(room, part)).status == EDITLENS_NO_MEMORY) {
-        refusals++;
-    }
+    do {
+        answer = editlens_session_show(room, part);
+    } while (is_again(answer.status == EDITLENS_NO_MEMORY));
     if (answer.status != EDITLENS_DONE) {
         exit(98);
     }
@@ -62,8 +75,7 @@ static size_t show_to(char *out, uint32_t part) {
 
 static void open(const char *program, size_t len) {
     editlens_session_open(room, (const uint8_t *)program, len);
-    while (editlens_session_status(room).status == EDITLENS_NO_SESSION) {
-        refusals++;
+    while (is_again(editlens_session_status(room).status == EDITLENS_NO_SESSION)) {
         editlens_session_close(room);
         editlens_session_open(room, (const uint8_t *)program, len);
     }
@@ -73,10 +85,9 @@ static void resume(const char *program, size_t len, const size_t *lens) {
     for (;;) {
         editlens_session_resume(room, (const uint8_t *)program, len, (uint8_t *)state[0], lens[0], (uint8_t *)state[1], lens[1],
                                 (uint8_t *)state[2], lens[2]);
-        if (editlens_session_status(room).status != EDITLENS_NO_SESSION) {
+        if (!is_again(editlens_session_status(room).status == EDITLENS_NO_SESSION)) {
             return;
         }
-        refusals++;
         editlens_session_close(room);
     }
 }
@@ -84,10 +95,9 @@ static void resume(const char *program, size_t len, const size_t *lens) {
 static void reopen(size_t len) {
     for (;;) {
         editlens_session_reopen(room, (const uint8_t *)logged, len);
-        if (editlens_session_status(room).status != EDITLENS_NO_SESSION) {
+        if (!is_again(editlens_session_status(room).status == EDITLENS_NO_SESSION)) {
             return;
         }
-        refusals++;
         editlens_session_close(room);
     }
 }
@@ -95,10 +105,9 @@ static void reopen(size_t len) {
 static void import(const char *program, size_t len, size_t right) {
     for (;;) {
         editlens_session_import_right(room, (const uint8_t *)program, len, (uint8_t *)state[2], right);
-        if (editlens_session_status(room).status != EDITLENS_NO_SESSION) {
+        if (!is_again(editlens_session_status(room).status == EDITLENS_NO_SESSION)) {
             return;
         }
-        refusals++;
         editlens_session_close(room);
     }
 }
@@ -109,7 +118,8 @@ static size_t report(char *out, long refused) {
     char *journal = strstr(script, "\n---\n");
     size_t program = (size_t)(journal - script) + 1, len = 0, lens[3], stored = 0;
     left = refused;
-    asked = 0;
+    is_aimed = refused >= 0;
+    asked = tried = 0;
     open(script, program);
     stored += text_to(logged);
     logged[stored++] = '\n';
@@ -117,9 +127,9 @@ static size_t report(char *out, long refused) {
         char *feed = strchr(line, '\n');
         size_t size = feed == NULL ? strlen(line) : (size_t)(feed - line);
         struct editlens_answer answer;
-        while ((answer = editlens_session_step(room, (uint8_t *)line, size)).status == EDITLENS_NO_MEMORY) {
-            refusals++;
-        }
+        do {
+            answer = editlens_session_step(room, (uint8_t *)line, size);
+        } while (is_again(answer.status == EDITLENS_NO_MEMORY));
         len += text_to(out + len);
         if (answer.status == EDITLENS_DONE) {
             stored += show_to(logged + stored, EDITLENS_CHANGE);
@@ -162,7 +172,8 @@ int main(int words, char **word) {
     size_t len = report(wanted, -1);
     long requests = asked;
     kept += held != before;
-    for (long each = 0; each < requests; each++) {
+    is_once = words > 2 && strcmp(word[2], "once") == 0;
+    for (long each = 0; each < (is_once ? 1 : requests); each++) {
         size_t other = report(found, each);
         differ += other != len || memcmp(found, wanted, len) != 0;
         kept += held != before;

@@ -1,7 +1,7 @@
 /* Each request for memory is refused once, over a script of a hub: the linker puts the functions here in the place of malloc, realloc and free.
 
    A call that finds no memory must say so and leave the hub as before: it is made again, and the report is to be the same as in a run in which
-   nothing was refused. At the end nothing may be left. */
+   nothing was refused. At the end nothing may be left. With the word `once` behind the script this is one run, as in refuse.c. */
 #include "editlens.h"
 
 #include <stdio.h>
@@ -39,7 +39,17 @@ void __wrap_free(void *block) {
 enum { ROOM = 1 << 20 };
 static char script[ROOM], wanted[ROOM], found[ROOM], state[ROOM];
 static char room[8192] __attribute__((aligned(16)));
-static long refusals;
+static long refusals, tried;
+static int is_once, is_aimed;
+
+/* Whether a call is to be made again, since it found no memory, which is counted. With `once` the request that is refused next is the first of
+   another call, or the one behind that of this call. */
+static int is_again(int found_none) {
+    refusals += found_none;
+    tried = found_none ? tried + 1 : 0;
+    left = is_once && is_aimed ? tried : left;
+    return found_none;
+}
 
 static size_t text_to(char *out) {
     struct editlens_answer answer = editlens_hub_text(room, (uint8_t *)out, ROOM / 4);
@@ -52,16 +62,15 @@ static size_t text_to(char *out) {
 /* Shows a part; nothing if there is no such view. */
 static size_t show_to(char *out, uint32_t part, uint64_t view) {
     struct editlens_answer answer;
-    while ((answer = editlens_hub_show(room, part, view)).status == EDITLENS_NO_MEMORY) {
-        refusals++;
-    }
+    do {
+        answer = editlens_hub_show(room, part, view);
+    } while (is_again(answer.status == EDITLENS_NO_MEMORY));
     return answer.status == EDITLENS_DONE ? text_to(out) : 0;
 }
 
 static void open(size_t programs) {
     editlens_hub_open(room, (const uint8_t *)script, programs);
-    while (editlens_hub_status(room).status == EDITLENS_NO_SESSION) {
-        refusals++;
+    while (is_again(editlens_hub_status(room).status == EDITLENS_NO_SESSION)) {
         editlens_hub_close(room);
         editlens_hub_open(room, (const uint8_t *)script, programs);
     }
@@ -69,8 +78,7 @@ static void open(size_t programs) {
 
 static void resume(size_t programs, size_t len) {
     editlens_hub_resume(room, (const uint8_t *)script, programs, (const uint8_t *)state, len);
-    while (editlens_hub_status(room).status == EDITLENS_NO_SESSION) {
-        refusals++;
+    while (is_again(editlens_hub_status(room).status == EDITLENS_NO_SESSION)) {
         editlens_hub_close(room);
         editlens_hub_resume(room, (const uint8_t *)script, programs, (const uint8_t *)state, len);
     }
@@ -95,15 +103,16 @@ static size_t report(char *out, long refused) {
     char *journal = strstr(script, "\n---\n");
     size_t programs = (size_t)(journal - script) + 1, len = 0, size;
     left = refused;
-    asked = 0;
+    is_aimed = refused >= 0;
+    asked = tried = 0;
     open(programs);
     for (char *line = journal + 5; *line != 0; line += size) {
         char *feed = strchr(line, '\n');
         struct editlens_answer answer;
         size = feed == NULL ? strlen(line) : (size_t)(feed - line);
-        while ((answer = editlens_hub_step(room, (uint8_t *)line, size)).status == EDITLENS_NO_MEMORY) {
-            refusals++;
-        }
+        do {
+            answer = editlens_hub_step(room, (uint8_t *)line, size);
+        } while (is_again(answer.status == EDITLENS_NO_MEMORY));
         len += text_to(out + len);
         size += feed != NULL;
     }
@@ -133,7 +142,8 @@ int main(int words, char **word) {
     size_t len = report(wanted, -1);
     long requests = asked;
     kept += held != before;
-    for (long each = 0; each < requests; each++) {
+    is_once = words > 2 && strcmp(word[2], "once") == 0;
+    for (long each = 0; each < (is_once ? 1 : requests); each++) {
         size_t other = report(found, each);
         differ += other != len || memcmp(found, wanted, len) != 0;
         kept += held != before;

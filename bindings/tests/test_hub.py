@@ -15,6 +15,9 @@ sys.dont_write_bytecode = True
 import editlens_hub as hubs  # noqa: E402
 import editlens_library as library  # noqa: E402
 
+# What a sanitizer watches is slow, and many cases reach the same code.
+IS_SHORT = bool(os.environ.get("EDITLENS_FEW_CASES"))
+CASES = 25 if IS_SHORT else 200
 FIRST, SECOND = b"main {hours ~ time: id int, left done: bool}\n", b"main {hours ~ all: id int, done ~ ready: id bool}"
 
 
@@ -87,7 +90,9 @@ class Hubs(unittest.TestCase):
             self.assertEqual(report(given), wanted)
             self.assertEqual(resumed_report(given), wanted)
             tried += 1
-        self.assertGreaterEqual(tried, 200)
+            if tried == CASES:
+                break
+        self.assertEqual(tried, CASES)
 
     def test_two_hubs_go_on_together(self):
         tried = 0
@@ -108,7 +113,9 @@ class Hubs(unittest.TestCase):
                         self.assertEqual(said.split(b" ", 2)[2:], first_said.split(b" ", 2)[2:])
                         self.assertEqual(other.show(hubs.HUB_STATE), first.show(hubs.HUB_STATE))
                         tried += 1
-        self.assertGreaterEqual(tried, 300)
+            if IS_SHORT and tried:
+                break
+        self.assertGreaterEqual(tried, 1 if IS_SHORT else 300)
 
     def test_a_state_is_resumed_if_it_is_consistent(self):
         programs = [FIRST, SECOND]
