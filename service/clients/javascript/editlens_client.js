@@ -20,6 +20,14 @@ const PAUSES = [50, 100, 200, 500, 1000];
 const AGAIN = new Set([408, 425, 429, 502, 503, 504]);
 const SILENCE = 40_000;
 
+/** A key that no other edit has. Node 18 has no `crypto`, and a page that came over plain HTTP no `randomUUID`. */
+const freshKey = () => {
+  const bytes = new Uint8Array(16);
+  if (globalThis.crypto) globalThis.crypto.getRandomValues(bytes);
+  else bytes.forEach((_, at) => { bytes[at] = Math.floor(256 * Math.random()); });
+  return Array.from(bytes, (byte) => byte.toString(16).padStart(2, "0")).join("");
+};
+
 const pause = (turn) => new Promise((resolve) => setTimeout(resolve, PAUSES[Math.min(turn, PAUSES.length - 1)]));
 
 /** A request that the service refuses. `problem` is its body. */
@@ -84,7 +92,7 @@ export class Client {
   }
 
   /** Sends a request that changes something, behind those of its pair. `expected` is the number of the state that it is made for. */
-  async change(method, path, kind, body, { expected = null, key = crypto.randomUUID() } = {}) {
+  async change(method, path, kind, body, { expected = null, key = freshKey() } = {}) {
     const headers = { "Content-Type": kind, "Idempotency-Key": key, ...(expected === null ? {} : { "If-Match": `"${expected}"` }) };
     this.pending.set(key, { method, path, body });
     this.waits(this.pending);
