@@ -11,9 +11,11 @@ ghost use Rattle.pair_answers.specs.AnswerLines.{HasAnswerLine};
 ghost use Rattle.pair_answers.specs.ItemViews.{step_with};
 
 use crate::answers::PairAnswer;
-use edit_journal::{EntryFault, Line, read_entry};
+use change_tokens::read_line;
+use edit_journal::{EntryFault, Line};
 use edit_module::{Change, Entries, Entry};
 use edit_session::{GroupFault, Session, StepFault};
+use json::Scratch;
 use lens_core::EditLens;
 use std::alloc::{AllocError, Global};
 
@@ -21,10 +23,13 @@ use std::alloc::{AllocError, Global};
 ///
 /// An entry or a group that does not apply, and a line that is not a change, leave the session as it was. The only
 /// error is running out of memory, which leaves it as it was too.
+///
+/// The scratch may hold anything. Room in it is kept, so a caller keeps one from line to line.
 pub fn take_item<L: EditLens>(
     alloc: Global,
     session: &mut Session<L>,
     line: &Line,
+    scratch: &mut Scratch,
 ) -> Result<PairAnswer, AllocError>
     ensures answer { IfOk result (λ answer. take_item (L.left_type session.old.lens)
         (L.right_type session.old.lens) (L.carried session.old.lens)
@@ -34,7 +39,7 @@ pub fn take_item<L: EditLens>(
     ensures lens { session.new.lens ≡ session.old.lens }
     ensures unchanged { OnErr result (session.new ≡ session.old) }
 {
-    match read_entry(alloc, line) {
+    match read_line(alloc, line, scratch) {
         Ok(Change::One(entry)) => take_entry(session, &entry),
         Ok(Change::Group(entries)) => take_group(session, entries),
         Err(EntryFault::NoMemory) => Err(AllocError),

@@ -11,6 +11,7 @@ use accepted_programs::Refused;
 use answer_text::refused_part_line;
 use edit_journal::Line;
 use edit_session::Session;
+use json::Scratch;
 use lens_flat::Flat;
 use lens_types::Typed;
 use pair_answers::{answer_line, state_lines, take_item};
@@ -23,6 +24,8 @@ use texts::Bytes;
 #[derive(Drop)]
 pub struct PairRun {
     pub session: Session<Flat>,
+    // Room for reading lines, which says nothing of the state.
+    scratch: Scratch,
 }
 
 impl ScriptState for PairRun {
@@ -53,7 +56,7 @@ impl ScriptState for PairRun {
     ghost in_step = { IsPairInStep };
 
     fn answer(&mut self, alloc: Global, number: u64, line: &Line) -> Result<Answer, AllocError> {
-        answer_item(alloc, &mut self.session, number, line)
+        answer_item(alloc, &mut self.session, number, line, &mut self.scratch)
     }
 
     fn state_lines(&self, alloc: Global) -> Result<Bytes, AllocError> {
@@ -67,11 +70,12 @@ fn answer_item(
     session: &mut Session<Flat>,
     number: u64,
     line: &Line,
+    scratch: &mut Scratch,
 ) -> Result<Answer, AllocError>
     ensures { IfOk result
         (λ a. line_answer (pair_state_of session.old) number line.now ≡ Some (pair_state_of session.new, a)) }
 {
-    let answer = take_item(alloc, session, line)?;
+    let answer = take_item(alloc, session, line, scratch)?;
     let line = answer_line(alloc, number, &answer)?;
     let refused = answer.is_refused();
     Ok(Answer { line, refused })
@@ -116,7 +120,8 @@ fn first_run(alloc: Global, typed: &Typed) -> Result<PairRun, AllocError>
 {
     let lens = Flat::compile(alloc, typed)?;
     let session = Session::start(alloc, lens)?;
-    Ok(PairRun { session })
+    let scratch = Scratch::new(alloc);
+    Ok(PairRun { session, scratch })
 }
 
 // The refusal of a program part, with its line. Running out of memory is not a refusal.
