@@ -11,6 +11,6 @@ mod tokens;
 
 pub use crate::numbers::{count_of, int_of};
 pub use crate::tokens::{
-    closes_object, is_at_end, opens_array, opens_object, take_count, take_int, take_key, take_text,
+    closes_object, is_at_end, next_key, opens_array, opens_object, take_count, take_int, take_key, take_text,
     takes_key,
 };

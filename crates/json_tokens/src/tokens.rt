@@ -1,5 +1,5 @@
 //! Texts, whole numbers, and the brackets that open values.
-ghost use Rattle.std.specs.Prelude.{◌≡◌, ◌∷◌, [], ℕ, Some, None, IfSome, IsTrue};
+ghost use Rattle.std.specs.Prelude.{◌≡◌, ◌∷◌, [], ℕ, Some, None, IfSome, IsTrue, option_map};
 ghost use Rattle.json.specs.Json.{read_key};
 ghost use Rattle.json.specs.Token.{begin_array, begin_object};
 ghost use Rattle.serde_json.specs.Data.{string, number, unsigned};
@@ -90,4 +90,13 @@ pub fn is_at_end<'a>(reader: &mut Reader<'a>) -> bool
     ensures { IsTrue result → reader.old ≡ [] }
 {
     reader.next().is_none()
+}
+
+/// Takes the key of the next member of an object, or the brace that closes it, and then gives `Some(None)`. `None` says
+/// nothing of the object, and the reader is of no more use.
+pub fn next_key<'a>(reader: &mut Reader<'a>) -> Option<Option<&'a str>>
+    ensures { IfSome result (λ key. read_key reader.old
+        ≡ Some (option_map (λ k. k.now) key, reader.new)) }
+{
+    reader.next_key().ok()
 }
