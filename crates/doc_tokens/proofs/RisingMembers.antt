@@ -1,7 +1,7 @@
 -- Members that come with rising names: each is put behind those that were found before.
-use Rattle.std.proofs.Common.{◌≡◌, ℕ, ◌-◌, ◌<◌, Bool, true, false, ◌&&◌, List, [], ◌∷◌, ◌++◌, Option, Some, None, option_map, option_and_then, Ordering, refl, sym, ap, ◌∙◌, arith, append-nil, cond, bytes_eq, subst, suc, ◌+◌, ◌≤◌, add-one, map, drop, length, get_or}
+use Rattle.std.proofs.Common.{◌≡◌, ℕ, ◌-◌, ◌<◌, Bool, true, false, ◌&&◌, List, [], ◌∷◌, ◌++◌, Option, Some, None, option_map, option_and_then, Ordering, refl, sym, ap, ◌∙◌, arith, append-nil, cond, bytes_eq, subst, ◌==◌, ne_eqb, suc, ◌+◌, ◌≤◌, add-one, map, drop, length, get_or}
 use Rattle.std.proofs.Math.Seq.{drop-cons}
-use Rattle.std.proofs.lemmas.List.{append_assoc, drop_all}
+use Rattle.std.proofs.lemmas.List.{append_assoc, drop_all, length-append, get_or_push}
 use Rattle.std.specs.declared.cmp.Ordering.TheVariants.{Less, Equal, Greater}
 use Rattle.std.specs.Ordering.{nat_cmp, is_lt, ordering_reverse, match_ordering}
 use Rattle.std.specs.Cmp.Lexicographic.{slice_cmp}
@@ -157,9 +157,10 @@ object_read g h depth ts r y z some e gives =
     read_of h depth (Token.begin_object ∷ ts) (object p.0) r z (object_at depth ts some ∙ ap (parse_map object) p.1) (gives p.0 p.2)
 
 pub last_of-append : (ns : List (List ℕ)) (n : List ℕ) → last_of (ns ++ n ∷ []) ≡ Some n
-last_of-append [] n = refl
-last_of-append (m ∷ []) n = refl
-last_of-append (m ∷ k ∷ ns) n = last_of-append (k ∷ ns) n
+last_of-append ns n =
+    let long : length (ns ++ n ∷ []) ≡ length ns + 1 = length-append ns (n ∷ []) in
+    let some : (length (ns ++ n ∷ []) == 0) ≡ false = ne_eqb (length (ns ++ n ∷ [])) 0 (λ z. omega (arith, long)) in
+    rw some (ap (λ i. Some (get_or (ns ++ n ∷ []) i [])) (let e : length (ns ++ n ∷ []) - 1 ≡ length ns = omega (arith, long) in e) ∙ ap Some (get_or_push ns n [] (length ns) refl))
 
 -- ---- by the places of fields
 

@@ -1,5 +1,5 @@
 -- The members of an object among the tokens of a text, and what functions make of them.
-use Rattle.std.specs.Prelude.{ℕ, Bool, true, List, [], ◌∷◌, Option, Some, None, option_map}
+use Rattle.std.specs.Prelude.{ℕ, ◌-◌, ◌==◌, Bool, true, List, [], length, slice_index_or, if◌then◌else◌, Option, Some, None, option_map}
 use Rattle.json.specs.Token.{Token}
 use Rattle.serde_json.specs.Data.{Members, no_members}
 use Rattle.serde_json.specs.Read.{converted}
@@ -20,9 +20,7 @@ follows (Some l) k = is_before l k
 
 -- the last of some names
 abbrev pub last_of : List (List ℕ) → Option (List ℕ)
-last_of [] = None
-last_of (n ∷ []) = Some n
-last_of (n ∷ m ∷ ns) = last_of (m ∷ ns)
+last_of ns = if length ns == 0 then None else Some (slice_index_or ns (length ns - 1) [])
 
 -- the names of members, and their contents, all of the type
 abbrev pub entry_documents : TyTree → Members → Option (List (List ℕ) × DocTrees)

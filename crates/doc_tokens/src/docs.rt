@@ -155,10 +155,10 @@ fn follows(last: Option<&Name>, name: &Name) -> bool
 fn rises(names: &[Name], name: &Name) -> bool
     ensures { result ≡ follows (last_of names.now) name.now }
 {
-    match names.last() {
-        Some(last) => last.is_before(name),
-        None => true,
+    if names.is_empty() {
+        return true;
     }
+    names[names.len() - 1].is_before(name)
 }
 
 #[cycle(take)]
@@ -175,13 +175,18 @@ fn take_tagged<'a>(
         return None;
     }
     let name = take_key(reader)?;
-    let (_, ty) = tags.find(name)?;
+    let Some((_, ty)) = tags.find(name) else {
+        return None;
+    };
     let content = take_doc(alloc, ty, reader, depth - 1)?;
     if !closes_object(reader) {
         return None;
     }
     let tag = name_of(alloc, name)?;
-    Some(Doc::Alt(tag, Box::new(alloc, content).ok()?))
+    match Box::new(alloc, content) {
+        Ok(content) => Some(Doc::Alt(tag, content)),
+        Err(_) => None,
+    }
 }
 
 #[cycle(take)]
