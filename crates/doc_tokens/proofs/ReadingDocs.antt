@@ -1,11 +1,10 @@
 -- Numbers and contents that are read one after another, and documents that are read part by part.
-use Rattle.std.proofs.Common.{◌≡◌, ℕ, ℤ, ◌-◌, ◌<◌, Bool, true, List, [], ◌∷◌, ◌++◌, length, Option, Some, None, option_map, option_and_then, codes, refl, sym, ap, ◌∙◌, arith, append-nil, IfSome, subst}
+use Rattle.std.proofs.Common.{◌≡◌, ℕ, ◌-◌, ◌<◌, Bool, List, [], ◌∷◌, ◌++◌, Option, Some, None, option_map, option_and_then, codes, refl, sym, ap, ◌∙◌, arith, append-nil, IfSome, subst}
 use Rattle.std.proofs.lemmas.List.{append_assoc}
 use Rattle.json.specs.Token.{Token}
-use Rattle.json.specs.Json as json
 use Rattle.json.specs.Json.{after_end_array, read_key, parse_map}
 use Rattle.json.proofs.Grammar.{value_is}
-use Rattle.serde_json.specs.Data.{Data, null, boolean, array, object, Items, no_items, item, Members, no_members, member, number, string}
+use Rattle.serde_json.specs.Data.{Data, null, boolean, array, object, Members, no_members, member, number, string}
 use Rattle.serde_json.specs.Read.{of_json, converted}
 use Rattle.doc_values.specs.Documents.{DocTree, DocTrees, no_docs, more_docs, docs_of, unit, truth, alt}
 use Rattle.doc_values.specs.Types.{TyTree, FieldTrees, ty_unit, ty_bool, ty_alt, ty_keyed, ty_ordered}
@@ -14,7 +13,7 @@ use Rattle.value_json.specs.Numbers.{count_of, counts_of}
 use Rattle.value_json.specs.DocumentJson.{document_of, item_documents, member_documents, member_names, keyed_document, ordered_document}
 use Rattle.value_json.proofs.DocumentOf.{ordered_of, ordered_found, alt_of, tag_found}
 use Rattle.value_json.proofs.ReadLoops.{then_docs, then_docs-nil}
-use Rattle.json_tokens.specs.TreesAt.{tree_at, read_at, read_items_at}
+use Rattle.json_tokens.specs.TreesAt.{read_at, read_items_at}
 use Rattle.json_tokens.proofs.ReadParts.{read_of, more_read, end_read, array_read, one_member_read, two_members_read}
 use Rattle.doc_tokens.specs.MembersAt.{entry_documents}
 

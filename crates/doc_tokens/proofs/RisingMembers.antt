@@ -1,9 +1,9 @@
 -- Members that come with rising names: each is put behind those that were found before.
-use Rattle.std.proofs.Common.{◌≡◌, ℕ, ◌-◌, ◌<◌, Bool, true, false, ◌&&◌, List, [], ◌∷◌, ◌++◌, Option, Some, None, option_map, option_and_then, Ordering, refl, sym, ap, ◌∙◌, arith, append-nil, cond, bytes_eq, subst, ◌==◌, ne_eqb, suc, ◌+◌, ◌≤◌, add-one, map, drop, length, get_or}
+use Rattle.std.proofs.Common.{◌≡◌, ℕ, ◌-◌, ◌<◌, Bool, true, false, ◌&&◌, List, [], ◌∷◌, ◌++◌, Option, Some, None, option_map, option_and_then, refl, sym, ap, ◌∙◌, arith, append-nil, cond, subst, ◌==◌, ne_eqb, suc, ◌+◌, ◌≤◌, add-one, map, drop, length, get_or}
 use Rattle.std.proofs.Math.Seq.{drop-cons}
 use Rattle.std.proofs.lemmas.List.{append_assoc, drop_all, length-append, get_or_push}
-use Rattle.std.specs.declared.cmp.Ordering.TheVariants.{Less, Equal, Greater}
-use Rattle.std.specs.Ordering.{nat_cmp, is_lt, ordering_reverse, match_ordering}
+use Rattle.std.specs.declared.cmp.Ordering.TheVariants.{Greater}
+use Rattle.std.specs.Ordering.{nat_cmp, ordering_reverse, match_ordering}
 use Rattle.std.specs.Cmp.Lexicographic.{slice_cmp}
 use Rattle.std.proofs.lemmas.Cmp.{nat_list_cmp_total}
 use Rattle.json.specs.Token.{Token}
@@ -13,7 +13,7 @@ use Rattle.serde_json.specs.Read.{converted}
 use Rattle.texts.specs.Keys.{is_before}
 use Rattle.texts.proofs.Conjunction.{both, first, second}
 use Rattle.texts.proofs.KeyOrder.{is_less, before-trans, bytes_eq-refl}
-use Rattle.doc_values.specs.Documents.{DocTree, DocTrees, no_docs, more_docs, docs_of}
+use Rattle.doc_values.specs.Documents.{DocTree, DocTrees, more_docs, docs_of}
 use Rattle.doc_values.specs.Types.{TyTree, FieldTrees, no_fields, more_fields, type_fields_of, field_tree, ty_tree}
 use Rattle.doc_values.specs.declared.ty.Ty.{Ty}
 use Rattle.json_tokens.specs.TreesAt.{tree_at, members_at, read_at}

@@ -12,7 +12,9 @@ use crate::numbers::{take_counts, take_whole};
 use doc_values::{Doc, Docs, Fields, Ty, has_text};
 use hold_shapes::{DepthSeq, KeyedShape, ListShape, Name, Names, Shape, Str, TreeShape};
 use json::{Reader, Token};
-use json_tokens::{closes_object, next_key, opens_array, opens_object, take_key, take_text, takes_key};
+use json_tokens::{
+    closes_object, next_key, opens_array, opens_object, take_key, take_text, takes_key,
+};
 use shared_lists::SharedList;
 use std::alloc::Global;
 

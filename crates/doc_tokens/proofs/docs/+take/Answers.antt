@@ -1,4 +1,4 @@
-use Rattle.std.proofs.Common.{◌≡◌, ◌-◌, List, ℕ, codes, rules, Some, [], map, length, option_map, refl, ap, sym, ◌∙◌, subst, arith}
+use Rattle.std.proofs.Common.{◌-◌, List, ℕ, codes, rules, Some, map, length, option_map, refl, ap, sym, ◌∙◌, arith}
 use Rattle.std.proofs.lemmas.List.{map-append}
 use Rattle.json.proofs.Grammar.{read_key-shorter}
 use Rattle.doc_values.proofs.Heights.{field_height}
@@ -6,7 +6,7 @@ use Rattle.std.specs.Borrow.{Bor}
 use Rattle.hold_shapes.specs.declared.shape.Shape.TheVariants.{List as ListOf}
 use Rattle.doc_values.proofs.FieldPlaces.{lookup_field-height}
 use Rattle.doc_values.specs.declared.doc.Doc.{the_lemmas}
-use Rattle.doc_values.specs.Documents.{doc_tree, docs_tree, docs_of, rec, hold, alt}
+use Rattle.doc_values.specs.Documents.{doc_tree, docs_tree, rec, hold, alt}
 use Rattle.doc_values.specs.Types.{ty_tree, fields_tree, highest, ty_rec, ty_list, ty_keyed, ty_ordered, ty_alt}
 use Rattle.json_tokens.specs.TreesAt.{read_at, read_items_at}
 use Rattle.json_tokens.proofs.ReadParts.{read_shorter, array_read}
@@ -14,7 +14,7 @@ use Rattle.value_json.specs.DocumentJson.{document_of, item_documents, field_doc
 use Rattle.value_json.proofs.Levels.{doc_tree-Hold}
 use Rattle.doc_tokens.specs.MembersAt.{follows, last_of, entry_documents}
 use Rattle.doc_tokens.proofs.ReadingDocs.{if_some, onto_docs, next_doc, docs_end, keyed_gives, ordered_read, tagged_read}
-use Rattle.doc_tokens.proofs.RisingMembers.{object_read, fields_begin, next_field, fields_end, entries_begin, one_entry_more, all_entries, last_of-append, EntriesSoFar, FieldsSoFar}
+use Rattle.doc_tokens.proofs.RisingMembers.{object_read, fields_begin, next_field, fields_end, entries_begin, one_entry_more, all_entries, last_of-append}
 use Rattle.doc_tokens.proofs.docs.+take.Goals as goal
 
 pub take_items-loop-reader-smaller : goal.take_items-loop-reader-smaller

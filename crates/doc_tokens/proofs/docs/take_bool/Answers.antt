@@ -1,4 +1,4 @@
-use Rattle.std.proofs.Common.{◌∷◌, Some, ap, ◌∙◌, rules}
+use Rattle.std.proofs.Common.{◌∷◌, ap, ◌∙◌, rules}
 use Rattle.json.specs.Reads.{token_of}
 use Rattle.doc_values.specs.Types.{ty_bool}
 use Rattle.doc_values.specs.declared.doc.Doc.{the_lemmas}
