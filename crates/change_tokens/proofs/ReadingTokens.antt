@@ -1,18 +1,16 @@
 -- Values and words that are read from tokens: what each part gives the whole.
-use Rattle.std.proofs.Common.{◌≡◌, ℕ, ◌-◌, ◌<◌, Bool, List, [], ◌∷◌, ◌++◌, Option, Some, None, option_map, option_and_then, refl, sym, ap, ◌∙◌, append-nil, IfSome}
-use Rattle.std.proofs.lemmas.List.{append_assoc}
+use Rattle.std.proofs.Common.{◌≡◌, ℕ, ◌-◌, ◌<◌, Bool, List, ◌∷◌, Option, Some, None, option_map, option_and_then, refl, ap, IfSome}
 use Rattle.json.specs.Token.{Token}
-use Rattle.json.specs.Json.{after_end_array, parse_map}
 use Rattle.json.proofs.Grammar.{value_is}
 use Rattle.serde_json.specs.Data.{Num, boolean, number, string}
 use Rattle.serde_json.specs.Read.{of_json, number_of, converted}
 use Rattle.hold_shapes.specs.declared.edit.Place.TheVariants.{Index, Key, Node}
 use Rattle.edit_module.specs.declared.atom.Atom.{Atom}
 use Rattle.edit_module.specs.declared.atom.Atom.TheVariants.{Truth, Number, Letters}
-use Rattle.value_json.specs.Numbers.{int_in, count_in, count_of, counts_of}
+use Rattle.value_json.specs.Numbers.{int_in, count_in, counts_of}
 use Rattle.json_tokens.specs.TreesAt.{read_at, read_items_at}
 use Rattle.json_tokens.proofs.TreesAt.{text_at, number_at}
-use Rattle.json_tokens.proofs.ReadParts.{read_of, more_read, end_read, array_read}
+use Rattle.json_tokens.proofs.ReadParts.{read_of, array_read}
 use Rattle.edit_json.specs.Values.{atom_of, numbers_of, data_place}
 
 -- ---- atoms and places
@@ -45,23 +43,6 @@ node_read depth ts r ns some e = array_read counts_of data_place depth ts r ns (
 
 pub numbers_read : (depth : ℕ) (ts r : List Token) (ns : List ℕ) → 0 < depth → read_items_at counts_of (depth - 1) ts ≡ Some (ns, r) → read_at numbers_of depth (Token.begin_array ∷ ts) ≡ Some (ns, r)
 numbers_read depth ts r ns some e = array_read counts_of numbers_of depth ts r ns ns some e (λ ds h. h)
-
--- ---- numbers one after another
-
-abbrev pub onto : List ℕ → Option (List ℕ × List Token) → Option (List ℕ × List Token)
-onto ns r = parse_map (λ ms. ns ++ ms) r
-
-onto_one_more : (ns : List ℕ) (n : ℕ) (o : Option (List ℕ × List Token)) → onto ns (parse_map (λ ms. n ∷ ms) o) ≡ onto (ns ++ n ∷ []) o
-onto_one_more ns n None = refl
-onto_one_more ns n (Some p) = ap (λ ms. Some (ms, p.1)) (sym (append_assoc ns (n ∷ []) p.0))
-
-pub next_number : (depth : ℕ) (ns : List ℕ) (n : ℕ) (ts r : List Token) → read_at count_of depth ts ≡ Some (n, r)
-    → onto ns (read_items_at counts_of depth ts) ≡ onto (ns ++ n ∷ []) (read_items_at counts_of depth r)
-next_number depth ns n ts r e =
-    ap (onto ns) (more_read count_of counts_of (λ m ms. m ∷ ms) (λ d ds. refl) depth ts r n e) ∙ onto_one_more ns n (read_items_at counts_of depth r)
-
-pub numbers_end : (depth : ℕ) (ns : List ℕ) (ts r : List Token) → after_end_array ts ≡ Some r → onto ns (read_items_at counts_of depth ts) ≡ Some (ns, r)
-numbers_end depth ns ts r e = ap (onto ns) (end_read counts_of depth ts r [] refl e) ∙ ap (λ ms. Some (ms, r)) (append-nil ns)
 
 pub if_some : {A : Type 0} {P Q : A → Type 0} (o : Option A) → ((a : A) → P a → Q a) → IfSome o P → IfSome o Q
 if_some None f h = h

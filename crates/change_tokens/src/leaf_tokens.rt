@@ -7,9 +7,8 @@ ghost use Rattle.edit_json.specs.Values.{numbers_of};
 ghost use Rattle.edit_json.specs.WordJson.{leaf_of};
 ghost use Rattle.edit_json.specs.declared.kind.Kind.TheVariants as kinds;
 
-use crate::value_tokens::{
-    take_atom, take_item_count, take_name, take_number, take_numbers, take_str, take_whole,
-};
+use crate::value_tokens::{take_atom, take_item_count, take_name, take_numbers, take_str};
+use doc_tokens::{take_number, take_whole};
 use edit_module::word::Primitive;
 use hold_shapes::{Path, Places, ShapeEdit};
 use json::Reader;

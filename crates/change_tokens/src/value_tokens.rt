@@ -8,10 +8,11 @@ ghost use Rattle.json_tokens.specs.TreesAt.{read_at, read_items_at};
 ghost use Rattle.value_json.specs.Numbers.{int_in, count_in, int_of, count_of, counts_of};
 ghost use Rattle.edit_json.specs.Values.{atom_of, numbers_of, data_place, item_count_of};
 
+use doc_tokens::{take_counts, take_number};
 use edit_module::Atom;
 use hold_shapes::{MOST_ITEMS, Name, Path, Place, Str};
 use json::{Reader, Token};
-use json_tokens::{count_of, int_of, opens_array, take_count, take_int, take_text};
+use json_tokens::{count_of, int_of, opens_array, take_text};
 use std::alloc::Global;
 
 // Each function here returns `None` where the next value is not such a value, where its text is out of the ordinary, and
@@ -29,22 +30,6 @@ pub(crate) fn take_str<'a>(alloc: Global, reader: &mut Reader<'a>) -> Option<Str
         → read_at as_str depth reader.old ≡ Some (text, reader.new)) }
 {
     str_of(alloc, take_text(reader)?)
-}
-
-// A number that is an i64.
-pub(crate) fn take_whole<'a>(reader: &mut Reader<'a>) -> Option<i64>
-    ensures { IfSome result (λ number. (depth : ℕ)
-        → read_at int_of depth reader.old ≡ Some (number, reader.new)) }
-{
-    take_int(reader)
-}
-
-// A number that is a u64.
-pub(crate) fn take_number<'a>(reader: &mut Reader<'a>) -> Option<u64>
-    ensures { IfSome result (λ number. (depth : ℕ)
-        → read_at count_of depth reader.old ≡ Some (number, reader.new)) }
-{
-    take_count(reader)
 }
 
 // A number of items, from 1 to 65,536.
@@ -69,21 +54,6 @@ pub(crate) fn take_numbers<'a>(alloc: Global, reader: &mut Reader<'a>) -> Option
         return None;
     }
     take_counts(alloc, reader)
-}
-
-// The u64 numbers up to the bracket that closes an array.
-fn take_counts<'a>(alloc: Global, reader: &mut Reader<'a>) -> Option<Vec<u64>>
-    ensures { IfSome result (λ numbers. (depth : ℕ)
-        → read_items_at counts_of depth reader.old ≡ Some (numbers.items, reader.new)) }
-{
-    let mut numbers = Vec::new(alloc);
-    while !reader.take_end_array() {
-        let number = take_number(reader)?;
-        let Ok(()) = numbers.push(number) else {
-            return None;
-        };
-    }
-    Some(numbers)
 }
 
 // A bool, an i64 number or a string.
