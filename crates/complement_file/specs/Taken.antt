@@ -8,7 +8,11 @@ use Rattle.lens_forms.specs.Forms.{FormTree, RowTrees}
 use Rattle.lens_core.specs.Complements.{CompTree, CompTrees}
 use Rattle.json_tokens.specs.TreesAt.{tree_at, items_at, members_at}
 use Rattle.value_json.specs.DocumentJson.{member_names}
-use Rattle.complement_file.specs.Reading.{IsComplement, ArePlaces, AreRows, AreTags, member_contents}
+use Rattle.complement_file.specs.Reading.{IsNothing, IsComplement, ArePlaces, AreRows, AreTags, member_contents}
+
+-- nothing is kept, and the first value is `null`
+abbrev pub TakesNothing : ℕ → List Token → CompTree → List Token → Type 0
+TakesNothing depth old c new = (tree : Data) × (tree_at depth old ≡ Some (tree, new)) × IsNothing tree c
 
 -- a complement is the first value
 abbrev pub TakesComp : FormTree → ℕ → List Token → CompTree → List Token → Type 0

@@ -29,11 +29,11 @@ abbrev pub append : Members → Members → Members
 append no_members ns = ns
 append (member k d ms) ns = member k d (append ms ns)
 
-append-none : (ms : Members) → append ms no_members ≡ ms
+pub append-none : (ms : Members) → append ms no_members ≡ ms
 append-none no_members = refl
 append-none (member k d ms) = ap (member k d) (append-none ms)
 
-append-append : (ms ns os : Members) → append (append ms ns) os ≡ append ms (append ns os)
+pub append-append : (ms ns os : Members) → append (append ms ns) os ≡ append ms (append ns os)
 append-append no_members ns os = refl
 append-append (member k d ms) ns os = ap (member k d) (append-append ms ns os)
 

@@ -153,8 +153,8 @@ fn follows(last: Option<&Name>, name: &Name) -> bool
     }
 }
 
-// Whether a name comes behind the last of these.
-fn rises(names: &[Name], name: &Name) -> bool
+/// Whether a name comes behind the last of these.
+pub fn rises(names: &[Name], name: &Name) -> bool
     ensures { result ≡ follows (last_of names.now) name.now }
 {
     if names.is_empty() {

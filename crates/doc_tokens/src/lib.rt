@@ -8,5 +8,5 @@
 pub mod docs;
 pub mod numbers;
 
-pub use crate::docs::take_doc;
+pub use crate::docs::{rises, take_doc};
 pub use crate::numbers::{take_counts, take_number, take_whole};
