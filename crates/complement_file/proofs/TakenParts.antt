@@ -2,8 +2,11 @@
 use Rattle.std.proofs.Common.{◌≡◌, ℕ, suc, ◌+◌, ◌-◌, ◌<◌, ◌≤◌, ◌&&◌, Bool, true, List, [], ◌∷◌, ◌++◌, map, length, get_or, codes, Option, Some, None, IsTrue, refl, sym, ap, ap₂, subst, ◌∙◌, arith, append-nil}
 use Rattle.std.proofs.lemmas.List.{append_assoc, drop_all}
 use Rattle.json.specs.Token.{Token, begin_array, begin_object}
+use Rattle.json.specs.Json as json
 use Rattle.json.specs.Json.{after_end_array, read_key, parse_map}
-use Rattle.serde_json.specs.Data.{Data, string, array, object, Items, no_items, item, Members, no_members, member}
+use Rattle.json.proofs.Grammar.{value_is}
+use Rattle.serde_json.specs.Read.{of_json, converted}
+use Rattle.serde_json.specs.Data.{Data, null, string, array, object, Items, no_items, item, Members, no_members, member}
 use Rattle.texts.specs.Keys.{is_rising}
 use Rattle.texts.proofs.Conjunction.{both, first, second}
 use Rattle.hold_shapes.specs.Trees.{is_valid}
@@ -25,7 +28,7 @@ use Rattle.lens_core.specs.Tags.{tag_count}
 use Rattle.lens_core.specs.Complements.{CompTree, then_comp, rec_comp, alt_comp, hold_comp, tags_comp, CompTrees, no_comps, more_comps, comps_of, comp_count}
 use Rattle.json_tokens.specs.TreesAt.{tree_at, items_at, members_at, read_items_at}
 use Rattle.json_tokens.proofs.Conversions.{found}
-use Rattle.json_tokens.proofs.TreesAt.{text_at, array_at, end_of_items, more_items, object_at, end_of_members, more_members}
+use Rattle.json_tokens.proofs.TreesAt.{shorter, array_at, end_of_items, more_items, object_at, end_of_members, more_members}
 use Rattle.json_tokens.proofs.ReadParts.{array_of_two_at}
 use Rattle.doc_tokens.specs.MembersAt.{follows}
 use Rattle.doc_tokens.proofs.RisingMembers.{append, append-none, append-append, Found, found_more}
@@ -239,3 +242,11 @@ next_tag_taken fs depth ts now mid ks s k so_far e is rest new h =
 
 pub tags_end : (fs : FieldTrees) (depth : ℕ) (ts now new : List Token) (ks : List ℕ) → TagsSoFar fs depth ts now ks → after_end_array now ≡ Some new → TakesTags fs depth ts ks new
 tags_end fs depth ts now new ks s end = subst (λ x. TakesTags fs depth ts x new) (append-nil ks) (s [] new (no_items, end_of_items depth now new end, (refl, refl)))
+
+-- ---- values without parts
+
+pub null_at : (depth : ℕ) (ts : List Token) → tree_at depth (Token.null ∷ ts) ≡ Some (null, ts)
+null_at depth ts = ap (converted of_json) (value_is depth (Token.null ∷ ts))
+
+pub tree_shorter : (depth : ℕ) (ts r : List Token) (d : Data) → tree_at depth ts ≡ Some (d, r) → length r < length ts
+tree_shorter depth ts r d e = let j = found of_json (json.value depth ts) d r e in shorter depth ts j.0 r j.1
