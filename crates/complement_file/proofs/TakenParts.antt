@@ -1,5 +1,5 @@
 -- Complements that are taken from tokens: what each part gives the whole, and loops that take one after another.
-use Rattle.std.proofs.Common.{◌≡◌, ℕ, suc, ◌+◌, ◌-◌, ◌<◌, ◌≤◌, ◌&&◌, Bool, true, List, [], ◌∷◌, ◌++◌, map, length, get_or, codes, Option, Some, None, IsTrue, refl, sym, ap, ap₂, subst, ◌∙◌, arith, append-nil}
+use Rattle.std.proofs.Common.{◌≡◌, ℕ, suc, ◌+◌, ◌-◌, ◌<◌, ◌≤◌, ◌&&◌, Bool, true, List, [], ◌∷◌, ◌++◌, map, length, get_or, codes, Option, Some, None, IsTrue, refl, sym, ap, ap₂, subst, ◌∙◌, arith, append-nil, IfSome}
 use Rattle.std.proofs.lemmas.List.{append_assoc, drop_all}
 use Rattle.json.specs.Token.{Token, begin_array, begin_object}
 use Rattle.json.specs.Json as json
@@ -244,6 +244,10 @@ pub tags_end : (fs : FieldTrees) (depth : ℕ) (ts now new : List Token) (ks : L
 tags_end fs depth ts now new ks s end = subst (λ x. TakesTags fs depth ts x new) (append-nil ks) (s [] new (no_items, end_of_items depth now new end, (refl, refl)))
 
 -- ---- values without parts
+
+pub if_some : {A : Type 0} {P Q : A → Type 0} (o : Option A) → ((a : A) → P a → Q a) → IfSome o P → IfSome o Q
+if_some None f h = h
+if_some (Some a) f h = f a h
 
 pub null_at : (depth : ℕ) (ts : List Token) → tree_at depth (Token.null ∷ ts) ≡ Some (null, ts)
 null_at depth ts = ap (converted of_json) (value_is depth (Token.null ∷ ts))

@@ -1,0 +1,133 @@
+use Rattle.std.proofs.Common.{◌≡◌, ◌∷◌, ◌-◌, List, ℕ, [], Some, None, IsTrue, codes, length, map, option_map, true, refl, sym, ap, ap₂, subst, ◌∙◌, arith, rules}
+use Rattle.std.proofs.lemmas.List.{map-append}
+use Rattle.std.specs.Borrow.{Bor}
+use Rattle.texts.specs.Keys.{is_rising}
+use Rattle.json.specs.Token.{begin_array, begin_object}
+use Rattle.json.proofs.Grammar.{read_key-shorter}
+use Rattle.hold_shapes.specs.declared.shape.Shape.TheVariants.{List as ListOf, Keyed as KeyedOf, Tree as TreeOf}
+use Rattle.lens_forms.specs.Forms.{form_tree, rows_tree, arms_tree, form_then, form_rec, form_alt, form_each, form_keyed, form_ordered}
+use Rattle.lens_forms.specs.Measures.{rows_parts}
+use Rattle.lens_forms.specs.Typing.{are_typed_rows}
+use Rattle.lens_core.specs.Complements.{comp_tree, comps_tree, comps_of, then_comp, alt_comp, hold_comp}
+use Rattle.doc_tokens.specs.MembersAt.{follows, last_of}
+use Rattle.doc_tokens.proofs.RisingMembers.{last_of-append}
+use Rattle.complement_file.specs.Taken.{TakesComp, TakesPlaces, TakesRows, TakesContents}
+use Rattle.complement_file.proofs.Arms.{arm_smaller, arm_typed}
+use Rattle.complement_file.proofs.Levels.{rec_level, alt_level, hold_level}
+use Rattle.complement_file.proofs.Rows.{row_smaller_is}
+use Rattle.complement_file.proofs.TakenParts.{PlacesSoFar, RowsSoFar, ContentsSoFar, pair_taken, record_taken, tagged_taken, list_taken, keyed_taken, nodes_taken, next_place, places_end, no_row_yet, row_is_typed, row_taken, skip_left, skip_right, rows_end, no_content_yet, one_content_more, contents_end, tree_shorter, if_some}
+use Rattle.complement_file.proofs.tokens.+take.Goals as goal
+
+-- ---- places
+
+pub take_places-loop-reader-smaller : goal.take_places-loop-reader-smaller
+take_places-loop-reader-smaller t c =
+    let p = c.in_ok-comp.ensures in
+    let less = tree_shorter c.args.depth c.take_end_array.new.self c.take.new.reader p.0 p.1 in
+    omega (arith, less, ap length c.loop-reader-test.ensures.1)
+
+pub take_places-loop-reader-preserved : goal.take_places-loop-reader-preserved
+take_places-loop-reader-preserved t c =
+    let l = c.loop-reader in
+    let f = form_tree c.args.inner.now in
+    subst (λ cs. PlacesSoFar f c.args.depth c.args.reader.now c.take.new.reader cs) (sym (ap (map comp_tree) c.in-Ok.ensures.items ∙ map-append comp_tree l.comps.items _))
+    (next_place f c.args.depth c.args.reader.now c.take_end_array.new.self c.take.new.reader (map comp_tree l.comps.items) (comp_tree c.in_ok-comp.comp)
+    (subst (λ ts. PlacesSoFar f c.args.depth c.args.reader.now ts (map comp_tree l.comps.items)) (sym c.loop-reader-test.ensures.1) l.invariant) c.in_ok-comp.ensures)
+
+pub take_places-returns-in-Ok-from_vec : goal.take_places-returns-in-Ok-from_vec
+take_places-returns-in-Ok-from_vec t c =
+    let l = c.loop-reader in
+    let f = form_tree c.args.inner.now in
+    subst (λ cs. TakesPlaces f c.args.depth c.args.reader.now cs c.take_end_array.new.self) (sym c.in-Ok-from_vec.ensures)
+    (places_end f c.args.depth c.args.reader.now l.reader c.take_end_array.new.self (map comp_tree l.comps.items) l.invariant c.loop-reader-test.ensures)
+
+-- ---- a list, a keyed map and an ordered tree
+
+pub take_list-returns : goal.take_list-returns
+take_list-returns t c =
+    let f = form_tree c.args.inner.now in
+    let o = c.if-not-opens_array_in.ensures refl in
+    let comps = c.in_ok-comps.comps in
+    subst (λ ts. TakesComp (form_each f) c.args.depth ts _ c.closes_object.new.reader) (sym o.1)
+    (subst (λ x. TakesComp (form_each f) c.args.depth (begin_object ∷ o.0) x c.closes_object.new.reader) (sym (hold_level _ comps))
+    (list_taken c.args.depth (omega arith) f o.0 c.opens_array_in.new.reader c.take_places.new.reader c.closes_object.new.reader (comps_tree comps) c.len-count.result o.2 c.in_ok-comps.ensures
+    (c.if-not-closes_object.ensures refl) c.len-count.ensures))
+
+pub take_contents-loop-comps-init : goal.take_contents-loop-comps-init
+take_contents-loop-comps-init t c =
+    let f = form_tree c.args.inner.now in
+    subst (λ ns. ContentsSoFar f c.args.depth c.args.reader.now c.args.reader.now ns (map comp_tree c.new-comps.result.items) (last_of ns)) (sym c.new-names.ensures.items)
+    (subst (λ cs. ContentsSoFar f c.args.depth c.args.reader.now c.args.reader.now [] cs None) (sym (ap (map comp_tree) c.new-comps.ensures.items)) (no_content_yet f c.args.depth c.args.reader.now))
+
+pub take_contents-loop-comps-smaller : goal.take_contents-loop-comps-smaller
+take_contents-loop-comps-smaller t c =
+    let p = c.in_ok-comp.ensures in
+    let key = read_key-shorter c.loop-comps.reader _ c.next_key.new.reader c.in_ok-key.ensures in
+    let less = tree_shorter c.args.depth c.next_key.new.reader c.take.new.reader p.0 p.1 in
+    omega (arith, less, key)
+
+pub take_contents-loop-comps-preserved : goal.take_contents-loop-comps-preserved
+take_contents-loop-comps-preserved t c =
+    let l = c.loop-comps in
+    let r = c.next_key.new.reader in
+    rw (c.in-Ok-push.ensures.items, map-append, c.in-Ok.ensures.items, last_of-append)
+    (one_content_more (form_tree c.args.inner.now) c.args.depth c.args.reader.now l.reader r c.take.new.reader l.names.items (map comp_tree l.comps.items) (last_of l.names.items) c.in_ok-name.name
+    (comp_tree c.in_ok-comp.comp) l.invariant (ap (λ ns. follows (last_of ns) c.in_ok-name.name) (sym c.deref.ensures.value) ∙ sym c.if-not-rises.ensures)
+    (c.in_ok-key.ensures ∙ ap (λ k. Some (option_map (λ (x : Bor (List ℕ)). x.now) k, r)) c.in-Some.is ∙ ap (λ n. Some (Some n, r)) (sym c.in_ok-name.ensures)) c.in_ok-comp.ensures)
+
+pub take_contents-returns-in-Ok-from_vec : goal.take_contents-returns-in-Ok-from_vec
+take_contents-returns-in-Ok-from_vec t c =
+    let l = c.loop-comps in
+    let r = c.next_key.new.reader in
+    let f = form_tree c.args.inner.now in
+    subst (λ cs. TakesContents f c.args.depth c.args.reader.now l.names.items cs r) (sym c.in-Ok-from_vec.ensures)
+    (contents_end f c.args.depth c.args.reader.now l.reader r l.names.items (map comp_tree l.comps.items) (last_of l.names.items) l.invariant
+    (c.in_ok-key.ensures ∙ ap (λ k. Some (option_map (λ (x : Bor (List ℕ)). x.now) k, r)) c.in_default.is))
+
+pub take_keyed-returns : goal.take_keyed-returns
+take_keyed-returns t c =
+    let f = form_tree c.args.inner.now in
+    let o = c.if-not-opens_object_in.ensures refl in
+    let comps = c.in_ok-names.comps in
+    let keys = c.in-Some.keys in
+    let same = c.in-Some.ensures.1 in
+    subst (λ ts. TakesComp (form_keyed f) c.args.depth ts _ c.closes_object.new.reader) (sym o.1)
+    (subst (λ x. TakesComp (form_keyed f) c.args.depth (begin_object ∷ o.0) x c.closes_object.new.reader) (sym (hold_level _ comps))
+    (keyed_taken c.args.depth (omega arith) f o.0 c.opens_object_in.new.reader c.take_contents.new.reader c.closes_object.new.reader c.in_ok-names.names.items keys (comps_tree comps) o.2 c.in_ok-names.ensures
+    (c.if-not-closes_object.ensures refl) (ap is_rising same ∙ c.in-Some.ensures.0) (same ∙ c.in-Ok.ensures)))
+
+pub take_nodes-returns : goal.take_nodes-returns
+take_nodes-returns t c =
+    let f = form_tree c.args.inner.now in
+    let o = c.if-not-opens_object_in.ensures refl in
+    let last = c.closes_object-else-not-closes_object.new.reader in
+    if_some c.nodes.result
+    (λ comp n.
+    subst (λ ts. TakesComp (form_ordered f) c.args.depth ts (comp_tree comp) last) (sym o.1)
+    (subst (λ x. TakesComp (form_ordered f) c.args.depth (begin_object ∷ o.0) x last) (sym n.4)
+    (nodes_taken c.args.depth f o.0 c.opens_object_in.new.reader c.opens_array.new.reader c.take_counts.new.reader c.opens_array-else-not-takes_key-2.new.reader c.take_places.new.reader c.closes_object.new.reader last
+    c.in_ok-depths.depths.items n.0 (comps_tree c.in_ok-comps.comps) (omega arith) o.2 (c.if-not-takes_key.ensures refl ∙ ap (λ ts. Some (Some (codes "depths"), ts)) (c.if-not-opens_array.ensures refl))
+    (c.in_ok-depths.ensures (c.args.depth - 3)) (c.if-not-takes_key-2.ensures refl ∙ ap (λ ts. Some (Some (codes "items"), ts)) (c.if-not-opens_array-2.ensures refl)) c.in_ok-comps.ensures
+    (c.if-not-closes_object.ensures refl) (c.if-not-closes_object-2.ensures refl) n.1 n.2 n.3)))
+    c.nodes.ensures
+
+-- ---- a composition, a record and alternatives
+
+pub take_pair-returns-in-Ok : goal.take_pair-returns-in-Ok
+take_pair-returns-in-Ok t c =
+    let l = form_tree c.args.first.now in
+    let m = form_tree c.args.second.now in
+    let o = c.if-not-opens_array_in.ensures refl in
+    subst (λ ts. TakesComp (form_then l m) c.args.depth ts _ c.closes_object.new.reader) (sym o.1)
+    (subst (λ x. TakesComp (form_then l m) c.args.depth (begin_object ∷ o.0) x c.closes_object.new.reader) (sym c.in-Ok.ensures)
+    (pair_taken c.args.depth (omega arith) l m o.0 c.opens_array_in.new.reader c.take.new.reader c.take-2.new.reader c.take_end_array.new.self c.closes_object.new.reader (comp_tree c.in_ok-one.one) (comp_tree c.in_ok-other.other)
+    o.2 c.in_ok-one.ensures c.in_ok-other.ensures c.if-not-take_end_array.ensures (c.if-not-closes_object.ensures refl)))
+
+pub take_record-returns : goal.take_record-returns
+take_record-returns t c =
+    let rows = rows_tree c.args.rows.now in
+    let o = c.if-not-opens_array_in.ensures refl in
+    let comps = c.in_ok-comps.comps in
+    subst (λ ts. TakesComp (form_rec rows) c.args.depth ts _ c.closes_object.new.reader) (sym o.1)
+    (subst (λ x. TakesComp (form_rec rows) c.args.depth (begin_object ∷ o.0) x c.closes_object.new.reader) (sym (rec_level comps))
+    (record_taken c.args.depth (omega arith) rows o.0 c.opens_array_in.new.reader c.take_rows.new.reader c.closes_object.new.reader (comps_tree comps) o.2 c.in_ok-comps.ensures (c.if-not-closes_object.ensures refl)))
