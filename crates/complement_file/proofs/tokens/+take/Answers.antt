@@ -8,6 +8,7 @@ use Rattle.hold_shapes.specs.declared.shape.Shape.TheVariants.{List as ListOf, K
 use Rattle.lens_forms.specs.Forms.{form_tree, rows_tree, arms_tree, form_then, form_rec, form_alt, form_each, form_keyed, form_ordered}
 use Rattle.lens_forms.specs.Measures.{rows_parts}
 use Rattle.lens_forms.specs.Typing.{are_typed_rows}
+use Rattle.lens_core.specs.declared.comp.Comp.{Hold, Rec}
 use Rattle.lens_core.specs.Complements.{comp_tree, comps_tree, comps_of, then_comp, alt_comp, hold_comp}
 use Rattle.doc_tokens.specs.MembersAt.{follows, last_of}
 use Rattle.doc_tokens.proofs.RisingMembers.{last_of-append}
@@ -48,8 +49,8 @@ take_list-returns t c =
     let f = form_tree c.args.inner.now in
     let o = c.if-not-opens_array_in.ensures refl in
     let comps = c.in_ok-comps.comps in
-    subst (λ ts. TakesComp (form_each f) c.args.depth ts _ c.closes_object.new.reader) (sym o.1)
-    (subst (λ x. TakesComp (form_each f) c.args.depth (begin_object ∷ o.0) x c.closes_object.new.reader) (sym (hold_level _ comps))
+    subst (λ ts. TakesComp (form_each f) c.args.depth ts (comp_tree (Hold (ListOf (record { count = c.len-count.result })) comps)) c.closes_object.new.reader) (sym o.1)
+    (subst (λ x. TakesComp (form_each f) c.args.depth (begin_object ∷ o.0) x c.closes_object.new.reader) (sym (hold_level (ListOf (record { count = c.len-count.result })) comps))
     (list_taken c.args.depth (omega arith) f o.0 c.opens_array_in.new.reader c.take_places.new.reader c.closes_object.new.reader (comps_tree comps) c.len-count.result o.2 c.in_ok-comps.ensures
     (c.if-not-closes_object.ensures refl) c.len-count.ensures))
 
@@ -91,8 +92,8 @@ take_keyed-returns t c =
     let comps = c.in_ok-names.comps in
     let keys = c.in-Some.keys in
     let same = c.in-Some.ensures.1 in
-    subst (λ ts. TakesComp (form_keyed f) c.args.depth ts _ c.closes_object.new.reader) (sym o.1)
-    (subst (λ x. TakesComp (form_keyed f) c.args.depth (begin_object ∷ o.0) x c.closes_object.new.reader) (sym (hold_level _ comps))
+    subst (λ ts. TakesComp (form_keyed f) c.args.depth ts (comp_tree (Hold (KeyedOf keys) comps)) c.closes_object.new.reader) (sym o.1)
+    (subst (λ x. TakesComp (form_keyed f) c.args.depth (begin_object ∷ o.0) x c.closes_object.new.reader) (sym (hold_level (KeyedOf keys) comps))
     (keyed_taken c.args.depth (omega arith) f o.0 c.opens_object_in.new.reader c.take_contents.new.reader c.closes_object.new.reader c.in_ok-names.names.items keys (comps_tree comps) o.2 c.in_ok-names.ensures
     (c.if-not-closes_object.ensures refl) (ap is_rising same ∙ c.in-Some.ensures.0) (same ∙ c.in-Ok.ensures)))
 
@@ -118,7 +119,7 @@ take_pair-returns-in-Ok t c =
     let l = form_tree c.args.first.now in
     let m = form_tree c.args.second.now in
     let o = c.if-not-opens_array_in.ensures refl in
-    subst (λ ts. TakesComp (form_then l m) c.args.depth ts _ c.closes_object.new.reader) (sym o.1)
+    subst (λ ts. TakesComp (form_then l m) c.args.depth ts (comp_tree c.in-Ok.comp) c.closes_object.new.reader) (sym o.1)
     (subst (λ x. TakesComp (form_then l m) c.args.depth (begin_object ∷ o.0) x c.closes_object.new.reader) (sym c.in-Ok.ensures)
     (pair_taken c.args.depth (omega arith) l m o.0 c.opens_array_in.new.reader c.take.new.reader c.take-2.new.reader c.take_end_array.new.self c.closes_object.new.reader (comp_tree c.in_ok-one.one) (comp_tree c.in_ok-other.other)
     o.2 c.in_ok-one.ensures c.in_ok-other.ensures c.if-not-take_end_array.ensures (c.if-not-closes_object.ensures refl)))
@@ -128,6 +129,14 @@ take_record-returns t c =
     let rows = rows_tree c.args.rows.now in
     let o = c.if-not-opens_array_in.ensures refl in
     let comps = c.in_ok-comps.comps in
-    subst (λ ts. TakesComp (form_rec rows) c.args.depth ts _ c.closes_object.new.reader) (sym o.1)
+    subst (λ ts. TakesComp (form_rec rows) c.args.depth ts (comp_tree (Rec comps)) c.closes_object.new.reader) (sym o.1)
     (subst (λ x. TakesComp (form_rec rows) c.args.depth (begin_object ∷ o.0) x c.closes_object.new.reader) (sym (rec_level comps))
     (record_taken c.args.depth (omega arith) rows o.0 c.opens_array_in.new.reader c.take_rows.new.reader c.closes_object.new.reader (comps_tree comps) o.2 c.in_ok-comps.ensures (c.if-not-closes_object.ensures refl)))
+
+-- ---- the paired rows
+
+pub take_rows-loop-row-init : goal.take_rows-loop-row-init
+take_rows-loop-row-init t c =
+    let rows = c.as_slice-row-items.result.now in
+    subst (λ cs. RowsSoFar rows 0 c.args.depth c.args.reader.now c.args.reader.now cs) (sym (ap (map comp_tree) c.new-comps.ensures.items))
+    (no_row_yet rows c.args.depth c.args.reader.now (ap are_typed_rows c.as_slice-row-items.ensures ∙ c.requires.typed))
