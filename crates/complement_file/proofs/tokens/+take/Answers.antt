@@ -1,4 +1,4 @@
-use Rattle.std.proofs.Common.{◌≡◌, ◌∷◌, ◌-◌, List, ℕ, [], Some, None, IsTrue, codes, length, map, option_map, true, refl, sym, ap, ap₂, subst, ◌∙◌, arith, rules}
+use Rattle.std.proofs.Common.{◌≡◌, ◌+◌, ◌∷◌, Vec, Global, ◌-◌, List, ℕ, [], Some, None, IsTrue, codes, length, map, option_map, true, refl, sym, ap, ap₂, subst, ◌∙◌, arith, rules}
 use Rattle.std.proofs.lemmas.List.{map-append}
 use Rattle.std.specs.Borrow.{Bor}
 use Rattle.texts.specs.Keys.{is_rising}
@@ -8,7 +8,7 @@ use Rattle.hold_shapes.specs.declared.shape.Shape.TheVariants.{List as ListOf, K
 use Rattle.lens_forms.specs.Forms.{form_tree, rows_tree, arms_tree, form_then, form_rec, form_alt, form_each, form_keyed, form_ordered}
 use Rattle.lens_forms.specs.Measures.{rows_parts}
 use Rattle.lens_forms.specs.Typing.{are_typed_rows}
-use Rattle.lens_core.specs.declared.comp.Comp.{Hold, Rec}
+use Rattle.lens_core.specs.declared.comp.Comp.{Comp, Hold, Rec, Alt}
 use Rattle.lens_core.specs.Complements.{comp_tree, comps_tree, comps_of, then_comp, alt_comp, hold_comp}
 use Rattle.doc_tokens.specs.MembersAt.{follows, last_of}
 use Rattle.doc_tokens.proofs.RisingMembers.{last_of-append}
@@ -18,6 +18,7 @@ use Rattle.complement_file.proofs.Levels.{rec_level, alt_level, hold_level}
 use Rattle.complement_file.proofs.Rows.{row_smaller_is}
 use Rattle.complement_file.proofs.TakenParts.{PlacesSoFar, RowsSoFar, ContentsSoFar, pair_taken, record_taken, tagged_taken, list_taken, keyed_taken, nodes_taken, next_place, places_end, no_row_yet, row_is_typed, row_taken, skip_left, skip_right, rows_end, no_content_yet, one_content_more, contents_end, tree_shorter, if_some}
 use Rattle.complement_file.proofs.tokens.+take.Goals as goal
+use Rattle.complement_file.proofs.tokens.+take.Goals.{take_rows-in-Both+in_ok-comp-in-Both+in-Ok, take_rows-in-OnlyLeft, take_rows-in-OnlyRight}
 
 -- ---- places
 
@@ -140,3 +141,74 @@ take_rows-loop-row-init t c =
     let rows = c.as_slice-row-items.result.now in
     subst (λ cs. RowsSoFar rows 0 c.args.depth c.args.reader.now c.args.reader.now cs) (sym (ap (map comp_tree) c.new-comps.ensures.items))
     (no_row_yet rows c.args.depth c.args.reader.now (ap are_typed_rows c.as_slice-row-items.ensures ∙ c.requires.typed))
+
+pub take_rows-take-requires : goal.take_rows-take-requires
+take_rows-take-requires t c =
+    let rows = c.as_slice-row-items.result.now in
+    let l = c.loop-row in
+    let low = row_smaller_is rows l.row-index c.row-item.result _ _ c.in-Both.form c.loop-row-test.true c.row-item.is c.in-Both.is in
+    let parts = ap rows_parts c.as_slice-row-items.ensures in
+    let small = c.requires.small in (
+      omega (arith, low, parts),
+      (
+        row_is_typed rows l.row-index c.args.depth c.args.reader.now l.reader (map comp_tree l.comps.items) c.row-item.result c.loop-row-test.true c.row-item.is l.invariant _ _ c.in-Both.form c.in-Both.is,
+        omega (arith, low, parts, small),
+      ),
+    )
+
+pub take_rows-loop-row-preserved : goal.take_rows-loop-row-preserved
+take_rows-loop-row-preserved t c =
+    let rows = c.as_slice-row-items.result.now in
+    let l = c.loop-row in
+    let i = l.row-index in
+    let depth = c.args.depth in
+    let first = c.args.reader.now in
+    let old = l.comps.items in
+    let r = c.row-item.result in
+    let now = c.loop-row-test.true in
+    elim c.match-row.branch [
+      | take_rows-in-Both+in_ok-comp-in-Both+in-Ok w ↦
+          let new = w.take.new.reader in
+          subst (λ ts. RowsSoFar rows (i + 1) depth first ts (map comp_tree c.match-row.comps.items)) (sym w.reader-is)
+          (subst (λ cs. RowsSoFar rows (i + 1) depth first new cs)
+          (sym (ap (λ (v : Vec Comp Global). map comp_tree v.items) w.comps-is ∙ ap (map comp_tree) w.in-Ok.ensures.items ∙ map-append comp_tree old _))
+          (row_taken rows i depth first l.reader (map comp_tree old) r now c.row-item.is l.invariant w.in-Both.field-0 w.in-Both.field-1 w.in-Both.form w.in-Both.is (comp_tree w.in_ok-comp-in-Both.comp) new w.in_ok-comp-in-Both.ensures))
+      | take_rows-in-OnlyLeft w ↦
+          subst (λ ts. RowsSoFar rows (i + 1) depth first ts (map comp_tree c.match-row.comps.items)) (sym w.reader-is)
+          (subst (λ cs. RowsSoFar rows (i + 1) depth first l.reader cs) (sym (ap (λ (v : Vec Comp Global). map comp_tree v.items) w.comps-is))
+          (skip_left rows i depth first l.reader (map comp_tree old) r now c.row-item.is l.invariant w.in-OnlyLeft.field-0 w.in-OnlyLeft.field-1 w.in-OnlyLeft.is))
+      | take_rows-in-OnlyRight w ↦
+          subst (λ ts. RowsSoFar rows (i + 1) depth first ts (map comp_tree c.match-row.comps.items)) (sym w.reader-is)
+          (subst (λ cs. RowsSoFar rows (i + 1) depth first l.reader cs) (sym (ap (λ (v : Vec Comp Global). map comp_tree v.items) w.comps-is))
+          (skip_right rows i depth first l.reader (map comp_tree old) r now c.row-item.is l.invariant w.in-OnlyRight.field-0 w.in-OnlyRight.field-1 w.in-OnlyRight.is))
+    ]
+
+pub take_rows-returns-in-Ok-from_vec : goal.take_rows-returns-in-Ok-from_vec
+take_rows-returns-in-Ok-from_vec t c =
+    let rows = c.as_slice-row-items.result.now in
+    let l = c.loop-row in
+    let cs = map comp_tree l.comps.items in
+    subst (λ x. TakesRows (rows_tree c.args.rows.now) c.args.depth c.args.reader.now x c.take_end_array.new.self) (sym c.in-Ok-from_vec.ensures)
+    (subst (λ rs. TakesRows rs c.args.depth c.args.reader.now (comps_of cs) c.take_end_array.new.self) c.as_slice-row-items.ensures
+    (rows_end rows l.row-index c.args.depth c.args.reader.now l.reader c.take_end_array.new.self cs c.loop-row-test.false l.invariant c.if-not-take_end_array.ensures))
+
+-- ---- alternatives
+
+pub take_tagged-take-requires : goal.take_tagged-take-requires
+take_tagged-take-requires t c =
+    let arms = arms_tree c.args.arms.now in
+    let found = sym c.in-Some.ensures in
+    let low = arm_smaller _ arms _ found in
+    let small = c.requires.small in
+    (omega (arith, low), (arm_typed arms _ _ c.requires.typed found, omega (arith, low, small)))
+
+pub take_tagged-returns-in-Ok : goal.take_tagged-returns-in-Ok
+take_tagged-returns-in-Ok t c =
+    let arms = arms_tree c.args.arms.now in
+    let o = c.if-not-opens_array_in.ensures refl in
+    let tag = c.in_ok-tag-2.tag in
+    let level = alt_level tag c.in-Ok.content ∙ ap (alt_comp tag) (ap comp_tree c.in-Ok.ensures.ok) ∙ ap (λ n. alt_comp n (comp_tree c.in_ok-content.content)) c.in_ok-tag-2.ensures in
+    subst (λ ts. TakesComp (form_alt arms) c.args.depth ts (comp_tree (Alt tag c.in-Ok.content)) c.closes_object.new.reader) (sym o.1)
+    (subst (λ x. TakesComp (form_alt arms) c.args.depth (begin_object ∷ o.0) x c.closes_object.new.reader) (sym level)
+    (tagged_taken c.args.depth (omega arith) arms o.0 c.opens_array_in.new.reader c.take_text.new.reader c.take.new.reader c.take_end_array.new.self c.closes_object.new.reader c.in_ok-tag.tag.now (form_tree c.in-Some.form.now)
+    (comp_tree c.in_ok-content.content) o.2 (c.in_ok-tag.ensures (c.args.depth - 2)) (sym c.in-Some.ensures) c.in_ok-content.ensures c.if-not-take_end_array.ensures (c.if-not-closes_object.ensures refl)))
