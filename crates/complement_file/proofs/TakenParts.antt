@@ -1,5 +1,5 @@
 -- Complements that are taken from tokens: what each part gives the whole, and loops that take one after another.
-use Rattle.std.proofs.Common.{◌≡◌, ℕ, suc, ◌+◌, ◌-◌, ◌<◌, ◌≤◌, ◌&&◌, Bool, true, List, [], ◌∷◌, ◌++◌, map, length, get_or, codes, Option, Some, None, IsTrue, refl, sym, ap, ap₂, subst, ◌∙◌, arith, append-nil, IfSome}
+use Rattle.std.proofs.Common.{◌≡◌, ℕ, ◌+◌, ◌-◌, ◌<◌, ◌≤◌, ◌&&◌, true, List, [], ◌∷◌, ◌++◌, map, length, get_or, codes, Option, Some, None, IsTrue, refl, sym, ap, ap₂, subst, ◌∙◌, arith, append-nil, IfSome}
 use Rattle.std.proofs.lemmas.List.{append_assoc, drop_all}
 use Rattle.json.specs.Token.{Token, begin_array, begin_object}
 use Rattle.json.specs.Json as json
@@ -18,7 +18,6 @@ use Rattle.value_json.specs.Numbers.{counts_of}
 use Rattle.value_json.specs.SmallTrees.{one_member, array_of_two}
 use Rattle.value_json.specs.DocumentJson.{member_names}
 use Rattle.lens_forms.specs.Forms.{FormTree, form_tree, form_then, form_rec, form_alt, form_each, form_keyed, form_ordered, form_part, RowTrees, no_rows, row_tree, form_rows_of, ArmTrees}
-use Rattle.lens_forms.specs.Forms as forms
 use Rattle.lens_forms.specs.Typing.{is_typed, are_typed_rows}
 use Rattle.lens_forms.specs.declared.form.Form.{Form}
 use Rattle.lens_forms.specs.declared.form.FormRow.{FormRow}
@@ -32,8 +31,8 @@ use Rattle.json_tokens.proofs.TreesAt.{shorter, array_at, end_of_items, more_ite
 use Rattle.json_tokens.proofs.ReadParts.{array_of_two_at}
 use Rattle.doc_tokens.specs.MembersAt.{follows}
 use Rattle.doc_tokens.proofs.RisingMembers.{append, append-none, append-append, Found, found_more}
-use Rattle.complement_file.specs.ComplementJson.{tree_of_complement, arm_with}
-use Rattle.complement_file.specs.Reading.{IsComplement, ArePlaces, AreRows, AreTags, IsTag, nodes_tree, member_contents}
+use Rattle.complement_file.specs.ComplementJson.{arm_with}
+use Rattle.complement_file.specs.Reading.{ArePlaces, IsTag, nodes_tree, member_contents}
 use Rattle.complement_file.specs.Taken.{TakesComp, TakesPlaces, TakesRows, TakesTags, TakesContents}
 use Rattle.complement_file.proofs.ReadSoFar.{then_comps}
 use Rattle.complement_file.proofs.ReadForms.{pair_found, rec_found, tagged_found, list_found, keyed_found, nodes_found, tags_found}
@@ -120,9 +119,11 @@ nodes_taken depth l t0 t1 t2 t3 t4 t5 t6 t7 depths nodes cs some key key_of_dept
     let members : members_at (depth - 2) no_members t1 ≡ Some (member (codes "depths") (array n.0) (member (codes "items") (array p.0) no_members), t6) =
     more_members (depth - 2) no_members (codes "depths") t1 (begin_array ∷ t2) (array n.0) t3 key_of_depths of_depths
     ∙ (more_members (depth - 2) (member (codes "depths") (array n.0) no_members) (codes "items") t3 (begin_array ∷ t4) (array p.0) t5 key_of_items of_items
-    ∙ end_of_members (depth - 2) (member (codes "depths") (array n.0) (member (codes "items") (array p.0) no_members)) t5 t6 end) in
-    (tree, object_in depth (omega (arith, some)) (codes "tree") t0 t1 t6 t7 (member (codes "depths") (array n.0) (member (codes "items") (array p.0) no_members)) key members last,
-    nodes_found l tree n.0 p.0 depths nodes cs refl n.2 same valid many p.2)
+    ∙ end_of_members (depth - 2) (member (codes "depths") (array n.0) (member (codes "items") (array p.0) no_members)) t5 t6 end) in (
+      tree,
+      object_in depth (omega (arith, some)) (codes "tree") t0 t1 t6 t7 (member (codes "depths") (array n.0) (member (codes "items") (array p.0) no_members)) key members last,
+      nodes_found l tree n.0 p.0 depths nodes cs refl n.2 same valid many p.2,
+    )
 
 -- ---- one complement after another
 
@@ -226,7 +227,7 @@ contents_end l depth ts now r ns cs last s end = (
   s.members.found ∙ end_of_members depth s.before now r end,
   sym (append-nil ns) ∙ sym (s.names no_members) ∙ ap member_names (append-none s.before),
   subst (λ x. ArePlaces l (member_contents s.before) x) (then_none cs)
-  (subst (λ ms. ArePlaces l (member_contents ms) (then_comps cs no_comps)) (append-none s.before) (s.contents no_members no_comps (tt, refl))),
+      (subst (λ ms. ArePlaces l (member_contents ms) (then_comps cs no_comps)) (append-none s.before) (s.contents no_members no_comps (tt, refl))),
 )
 
 -- ---- tags

@@ -33,7 +33,12 @@ use texts::Name;
 /// `read_comp` reads from the tree of these tokens.
 ///
 /// `None` says nothing of the value, and the reader is of no more use.
-pub fn take_comp<'a>(alloc: Global, typed: &Typed, reader: &mut Reader<'a>, depth: usize) -> Option<Comp>
+pub fn take_comp<'a>(
+    alloc: Global,
+    typed: &Typed,
+    reader: &mut Reader<'a>,
+    depth: usize,
+) -> Option<Comp>
     ensures { IfSome result (λ comp. TakesComp (form_tree typed.now) depth reader.old (comp_tree comp) reader.new) }
 {
     take(alloc, typed.form(), reader, depth)
@@ -207,12 +212,7 @@ fn name_of(alloc: Global, text: &str) -> Option<Name>
 }
 
 #[cycle(take)]
-fn take_list<'a>(
-    alloc: Global,
-    inner: &Form,
-    reader: &mut Reader<'a>,
-    depth: usize,
-) -> Option<Comp>
+fn take_list<'a>(alloc: Global, inner: &Form, reader: &mut Reader<'a>, depth: usize) -> Option<Comp>
     requires typed { IsTrue (is_typed (form_tree inner.now)) }
     requires small { form_parts (form_tree inner.now) ≤ MOST_PARTS }
     ensures { IfSome result (λ comp. TakesComp (form_each (form_tree inner.now)) depth reader.old (comp_tree comp)

@@ -1,15 +1,15 @@
-use Rattle.std.proofs.Common.{◌≡◌, ◌+◌, ◌∷◌, Vec, Global, ◌-◌, List, ℕ, [], Some, None, IsTrue, codes, length, map, option_map, true, refl, sym, ap, ap₂, subst, ◌∙◌, arith, rules}
+use Rattle.std.proofs.Common.{◌+◌, ◌∷◌, Vec, Global, ◌-◌, List, ℕ, [], Some, None, codes, length, map, option_map, refl, sym, ap, subst, ◌∙◌, arith}
 use Rattle.std.proofs.lemmas.List.{map-append}
 use Rattle.std.specs.Borrow.{Bor}
 use Rattle.texts.specs.Keys.{is_rising}
-use Rattle.json.specs.Token.{begin_array, begin_object}
+use Rattle.json.specs.Token.{begin_object}
 use Rattle.json.proofs.Grammar.{read_key-shorter}
-use Rattle.hold_shapes.specs.declared.shape.Shape.TheVariants.{List as ListOf, Keyed as KeyedOf, Tree as TreeOf}
+use Rattle.hold_shapes.specs.declared.shape.Shape.TheVariants.{List as ListOf, Keyed as KeyedOf}
 use Rattle.lens_forms.specs.Forms.{form_tree, rows_tree, arms_tree, form_then, form_rec, form_alt, form_each, form_keyed, form_ordered}
 use Rattle.lens_forms.specs.Measures.{rows_parts}
 use Rattle.lens_forms.specs.Typing.{are_typed_rows}
 use Rattle.lens_core.specs.declared.comp.Comp.{Comp, Hold, Rec, Alt}
-use Rattle.lens_core.specs.Complements.{comp_tree, comps_tree, comps_of, then_comp, alt_comp, hold_comp}
+use Rattle.lens_core.specs.Complements.{comp_tree, comps_tree, comps_of, alt_comp}
 use Rattle.doc_tokens.specs.MembersAt.{follows, last_of}
 use Rattle.doc_tokens.proofs.RisingMembers.{last_of-append}
 use Rattle.complement_file.specs.Taken.{TakesComp, TakesPlaces, TakesRows, TakesContents}

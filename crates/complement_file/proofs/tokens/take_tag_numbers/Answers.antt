@@ -1,8 +1,6 @@
-use Rattle.std.proofs.Common.{List, ℕ, sym, ap, subst, length, append-nil, arith}
-use Rattle.json.specs.Token.{Token}
+use Rattle.std.proofs.Common.{sym, ap, subst, length, arith}
 use Rattle.serde_json.specs.Data.{string}
 use Rattle.doc_values.specs.Types.{fields_tree}
-use Rattle.complement_file.specs.Taken.{TakesTags}
 use Rattle.complement_file.proofs.TakenParts.{TagsSoFar, next_tag_taken, tags_end, tree_shorter}
 use Rattle.complement_file.proofs.tokens.take_tag_numbers.Goals as goal
 

@@ -1,10 +1,10 @@
-use Rattle.std.proofs.Common.{◌≡◌, ◌∷◌, ◌-◌, refl, sym, ap, subst, ◌∙◌, arith, rules}
+use Rattle.std.proofs.Common.{◌≡◌, ◌∷◌, refl, sym, ap, subst, ◌∙◌, arith, rules}
 use Rattle.json.specs.Token.{begin_object}
 use Rattle.doc_values.specs.Types.{fields_tree}
 use Rattle.lens_forms.specs.Forms.{form_part}
 use Rattle.lens_core.specs.Complements.{comp_tree, tags_comp}
 use Rattle.lens_core.specs.declared.comp.Comp.{Tags, the_lemmas}
-use Rattle.complement_file.specs.Taken.{TakesComp, TakesTags}
+use Rattle.complement_file.specs.Taken.{TakesComp}
 use Rattle.complement_file.proofs.TakenParts.{tags_taken}
 use Rattle.complement_file.proofs.tokens.take_tags.Goals as goal
 
