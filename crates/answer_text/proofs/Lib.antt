@@ -1,2 +1,3 @@
 mod Examples
 pub mod RefusalLines
+pub mod TextFronts

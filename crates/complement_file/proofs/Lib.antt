@@ -13,3 +13,4 @@ pub mod Rows
 pub mod TagNames
 pub mod TreeParts
 pub mod TreesDiffer
+pub mod TakenParts

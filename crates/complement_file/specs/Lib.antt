@@ -1,2 +1,3 @@
 pub mod ComplementJson
 pub mod Reading
+pub mod Taken

@@ -12,9 +12,11 @@ mod lookup;
 mod numbers;
 pub mod read;
 mod tags;
+pub mod tokens;
 mod trees;
 mod write;
 
 pub use crate::fault::CompFault;
 pub use crate::read::read_comp;
+pub use crate::tokens::take_comp;
 pub use crate::write::write_comp;

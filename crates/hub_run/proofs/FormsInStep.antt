@@ -10,7 +10,7 @@ use Rattle.lens_forms.specs.Forms.{FormTree, left_type}
 use Rattle.lens_forms.specs.Typing.{is_typed}
 use Rattle.lens_core.specs.declared.lens.EditLens as OfLens
 use Rattle.form_steps.specs.LawsOfForms.{form_starts, form_edits}
-use Rattle.script_run.specs.declared.line_answers.Answer.{Answer}
+use Rattle.script_run.specs.Answers.{Answer}
 use Rattle.script_run.specs.ScriptEnds.{EveryRunStaysInStep}
 use Rattle.script_run.proofs.StepsStay.{every_run}
 use Rattle.view_hub.specs.Hubs.{ViewTree, HubTree, first_view}

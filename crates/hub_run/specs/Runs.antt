@@ -13,7 +13,7 @@ use Rattle.lens_forms.specs.Forms.{FormTree, left_type, right_type}
 use Rattle.lens_core.specs.Complements.{CompTree}
 use Rattle.lens_core.specs.declared.lens.EditLens as OfLens
 use Rattle.answer_text.specs.Lines.{tree_line}
-use Rattle.script_run.specs.declared.line_answers.Answer.{Answer}
+use Rattle.script_run.specs.Answers.{Answer}
 use Rattle.view_hub.specs.Hubs as hubs
 use Rattle.view_hub.specs.Hubs.{ViewTree, HubTree, Place, CarriedTree, hub_step, first_hub}
 use Rattle.view_hub.specs.Laws.{IsHub}

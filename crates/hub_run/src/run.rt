@@ -1,7 +1,8 @@
 //! A hub that answers the journal of a script.
 
-ghost use Rattle.std.specs.Prelude.{◌≡◌, ℕ, List, map, Some, IfOk, MatchResult};
+ghost use Rattle.std.specs.Prelude.{◌≡◌, ℕ, List, map, IfOk, OnErr, MatchResult};
 ghost use Rattle.lens_forms.specs.Forms.{form_tree};
+ghost use Rattle.script_run.specs.Answers.{AddsAnswer};
 ghost use Rattle.script_run.specs.ScriptSteps.{Opens, IsNotOpened};
 ghost use Rattle.view_hub.specs.Laws.{HaveOneLeftType};
 ghost use Rattle.view_hub.specs.Views.{hub_tree};
@@ -21,7 +22,7 @@ use crate::views::{HubRefused, refusal_line};
 use edit_journal::Line;
 use lens_flat::Flat;
 use lens_types::Typed;
-use script_run::{Answer, NotOpened, ScriptState};
+use script_run::{NotOpened, ScriptState};
 use std::alloc::{AllocError, Global};
 use std::marker::Model;
 use texts::Bytes;
@@ -73,8 +74,14 @@ impl ScriptState for HubRun {
 
     ghost in_step = { IsHubInStep };
 
-    fn answer(&mut self, alloc: Global, number: u64, line: &Line) -> Result<Answer, AllocError> {
-        answer_item(alloc, &mut self.hub, number, line)
+    fn answer(
+        &mut self,
+        alloc: Global,
+        number: u64,
+        line: &Line,
+        text: &mut Vec<u8>,
+    ) -> Result<bool, AllocError> {
+        answer_item(alloc, &mut self.hub, number, line, text)
     }
 
     fn state_lines(&self, alloc: Global) -> Result<Bytes, AllocError> {
@@ -83,21 +90,23 @@ impl ScriptState for HubRun {
     }
 }
 
-// Answers the item with this number, which steps the hub if it is an edit.
+// Adds the answer line of the item with this number, which steps the hub if it is an edit.
 fn answer_item(
     alloc: Global,
     hub: &mut Hub<Flat>,
     number: u64,
     line: &Line,
-) -> Result<Answer, AllocError>
-    ensures answer { IfOk result (λ a.
-        hub_answer (hub_state_of hub.old) number line.now ≡ Some (hub_state_of hub.new, a)) }
+    text: &mut Vec<u8>,
+) -> Result<bool, AllocError>
+    ensures answer { IfOk result (AddsAnswer (hub_answer (hub_state_of hub.old) number line.now)
+        (hub_state_of hub.new) text.old.items text.new.items) }
+    ensures unchanged { OnErr result (text.new.items ≡ text.old.items) }
     ensures lenses { hub.new.lenses ≡ hub.old.lenses }
 {
     let answer = take_hub_item(alloc, hub, line)?;
-    let refused = answer.is_refused();
     let line = hub_answer_line(alloc, number, &answer)?;
-    Ok(Answer { line, refused })
+    text.extend_from_slice(line.as_slice())?;
+    Ok(answer.is_refused())
 }
 
 impl HubRun {

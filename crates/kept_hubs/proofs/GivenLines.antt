@@ -7,7 +7,7 @@ use Rattle.edit_journal.specs.declared.line.Line.{Line}
 use Rattle.script_input.specs.Lines.{program_part, journal}
 use Rattle.script_run.specs.LineRuns.{last_state, answers_text, any_answer_refused, of_steps, run_lines}
 use Rattle.script_run.specs.Report.{with_state, report_with}
-use Rattle.script_run.specs.declared.line_answers.Answer.{Answer}
+use Rattle.script_run.specs.Answers.{Answer}
 use Rattle.lens_forms.specs.Forms.{FormTree}
 use Rattle.view_hub.specs.Hubs.{HubTree}
 use Rattle.view_hub.specs.Views.{hub_tree}

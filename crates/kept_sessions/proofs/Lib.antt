@@ -11,5 +11,6 @@ pub mod MadeChanges
 pub mod PartTexts
 pub mod RefusedPrograms
 pub mod SameStates
+pub mod TokenTexts
 pub mod UndoneSteps
 pub mod UndoneTexts

@@ -6,6 +6,7 @@ use Rattle.edit_journal.specs.EntryJson.{change_of_line}
 use Rattle.edit_journal.specs.Lines.{line_of, is_blank}
 use Rattle.edit_journal.specs.declared.line.Line.{Line}
 use Rattle.edit_module.specs.Changes.{ChangeTree, one, group}
+use Rattle.edit_module.specs.Views.{change_tree}
 use Rattle.edit_module.specs.Words.{WordTree}
 use Rattle.edit_session.specs.Run.{take_item}
 use Rattle.edit_session.specs.Step.{TripleTree}
@@ -34,7 +35,7 @@ use Rattle.kept_sessions.specs.Steps.{form_of, line_step, IsItemStep, IsLineStep
 use Rattle.kept_sessions.specs.declared.kept.Kept.{Kept}
 use Rattle.kept_sessions.specs.declared.kept.Kept.TheVariants as kept
 use Rattle.kept_sessions.specs.declared.outcome.Outcome.TheVariants as outcome
-use Rattle.kept_sessions.specs.declared.running.Accepted.{Accepted}
+use Rattle.kept_sessions.specs.declared.accepted.Accepted.{Accepted}
 use Rattle.kept_sessions.specs.declared.running.Running.{Running}
 use Rattle.kept_sessions.proofs.ItemSteps.{made, accepted_is, done_accepted, Fit, fit_of_line}
 
@@ -120,16 +121,16 @@ item_stepped before line after s =
     record { change = change.0; is = change.1; words = step.0; step = step.1 }
 
 change_stands : (records : List (List ℕ)) (text : List ℕ) (before after : Running) (line : Line) → IsLog records before → form_of after ≡ form_of before
-    → Stepped before line after → IsChangeText (form_of after) line text → IsLog (records ++ text ∷ []) after
-change_stands records text before after line g form s k =
+    → Stepped before line after → (change : ChangeTree) → change_of_line line ≡ Ok change → IsChangeText (form_of after) change text → IsLog (records ++ text ∷ []) after
+change_stands records text before after line g form s change is k =
     let f = form_of before in let t = triple_tree before.session.triple in let u = triple_tree after.session.triple in
-    let same = same_change line s.change k.change s.is k.is in
+    let same = same_change line s.change change s.is is in
     let step = subst (λ c. step_of f t c ≡ Some (Ok (u, s.words))) same s.step in
-    let reads = k.reads_back t u s.words (subst (λ (l : FormTree). step_of l t k.change ≡ Some (Ok (u, s.words))) (sym form) step) in
+    let reads = k.reads_back t u s.words (subst (λ (l : FormTree). step_of l t change ≡ Some (Ok (u, s.words))) (sym form) step) in
     record {
       count = g.count + 1;
-      stand = one_stands records text (the_change k.change) (standing f t g.count 2) (standing f u (g.count + 1) 2) g.typed g.stand reads
-          (has_record k.change (fit_of_line line k.change k.is), s.words, step, refl)
+      stand = one_stands records text (the_change change) (standing f t g.count 2) (standing f u (g.count + 1) 2) g.typed g.stand reads
+          (has_record change (fit_of_line line change is), s.words, step, refl)
           ∙ ap (λ (l : FormTree). result_at l u (g.count + 1)) (sym form);
       typed = ap is_typed form ∙ g.typed;
     }
@@ -137,7 +138,7 @@ change_stands records text before after line g form s k =
 kept_text : (records : List (List ℕ)) (text : List ℕ) (before after : Running) (line : Line) (last : Option Accepted) → IsLog records before → form_of after ≡ form_of before
     → Stepped before line after → IsKept (triple_tree before.session.triple) line outcome.Done last → HasChangeText (form_of after) last text → IsLog (records ++ text ∷ []) after
 kept_text records text before after line (Some a) g form s kept k =
-    change_stands records text before after line g form s (subst (λ (x : Line). IsChangeText (form_of after) x text) kept.line_is k)
+    change_stands records text before after line g form s (change_tree a.change) kept.change_is k
 kept_text records text before after line None g form s kept k = absurd kept
 
 pub item_change : (records : List (List ℕ)) (text : List ℕ) (before after : Running) (line : Line) → IsLog records before → IsItemStep before line outcome.Done after
@@ -161,16 +162,16 @@ made_of : (before after : Running) (line : Line) (last : Option Accepted) (a : A
     → Stepped before line after → IsKept (triple_tree before.session.triple) line outcome.Done last → last ≡ Some a → IsMade (form_of after) a
 made_of before after line (Some b) a form in_step s kept h =
     let same : b ≡ a = cc in
-    let as_line : a.line ≡ line = subst (λ (x : Accepted). x.line ≡ line) same kept.line_is in
-    let as_before : triple_tree a.before ≡ triple_tree before.session.triple = subst (λ (x : Accepted). triple_tree x.before ≡ triple_tree before.session.triple) same kept.before_is in
-    let step = subst (λ (l : FormTree). step_of l (triple_tree before.session.triple) s.change ≡ Some (Ok (triple_tree after.session.triple, s.words))) (sym form) s.step in
+    let t = triple_tree before.session.triple in
+    let as_change : change_of_line line ≡ Ok (change_tree a.change) = subst (λ (x : Accepted). change_of_line line ≡ Ok (change_tree x.change)) same kept.change_is in
+    let as_before : triple_tree a.before.triple ≡ t = subst (λ (x : Accepted). triple_tree x.before.triple ≡ t) same kept.before_is in
+    let step = subst (λ (l : FormTree). step_of l t s.change ≡ Some (Ok (triple_tree after.session.triple, s.words))) (sym form) s.step in
+    let step_a = subst (λ c. step_of (form_of after) t c ≡ Some (Ok (triple_tree after.session.triple, s.words))) (same_change line s.change (change_tree a.change) s.is as_change) step in
     record {
-      change = s.change;
-      is = ap change_of_line as_line ∙ s.is;
-      in_step = subst (λ t. IsInStepFor (form_of after) t) (sym as_before) (subst (λ (l : FormTree). IsInStepFor l (triple_tree before.session.triple)) (sym form) in_step);
+      in_step = subst (λ x. IsInStepFor (form_of after) x) (sym as_before) (subst (λ (l : FormTree). IsInStepFor l t) (sym form) in_step);
       after = triple_tree after.session.triple;
       words = s.words;
-      step = subst (λ t. step_of (form_of after) t s.change ≡ Some (Ok (triple_tree after.session.triple, s.words))) (sym as_before) step;
+      step = subst (λ x. step_of (form_of after) x (change_tree a.change) ≡ Some (Ok (triple_tree after.session.triple, s.words))) (sym as_before) step_a;
     }
 made_of before after line None a form in_step s kept h = cc
 

@@ -7,6 +7,7 @@ use Rattle.serde_json.specs.Data.{Data}
 use Rattle.serde_json.specs.Written.{compact_text}
 use Rattle.edit_journal.specs.Pieces.{has_no_end, texts_of}
 use Rattle.edit_journal.proofs.Feeding.{both_plain}
+use Rattle.edit_module.specs.Views.{change_tree}
 use Rattle.edit_session.specs.Step.{TripleTree}
 use Rattle.lens_forms.specs.Forms.{FormTree}
 use Rattle.program_writing.specs.Canonical.{canonical}
@@ -23,7 +24,7 @@ use Rattle.kept_sessions.specs.declared.kept.Kept.TheVariants as kept
 use Rattle.kept_sessions.specs.declared.outcome.Outcome.{Outcome}
 use Rattle.kept_sessions.specs.declared.outcome.Outcome.TheVariants as outcome
 use Rattle.kept_sessions.specs.declared.outcome.Part.TheVariants as part
-use Rattle.kept_sessions.specs.declared.running.Accepted.{Accepted}
+use Rattle.kept_sessions.specs.declared.accepted.Accepted.{Accepted}
 use Rattle.kept_sessions.specs.declared.running.Running.{Running}
 use Rattle.kept_sessions.proofs.CutTexts.{onto_empty}
 use Rattle.kept_sessions.proofs.LoggedLines.{is_reopened}
@@ -56,7 +57,7 @@ pub first_plain : (program text : List ℕ) → IsFirstRecord program text → h
 first_plain program text h = compact_plain (tree_of_program (canonical h.tree)) text h.is_text.compact
 
 pub change_plain : (form : FormTree) (last : Option Accepted) (text : List ℕ) → HasChangeText form last text → has_no_end text ≡ true
-change_plain form (Some a) text h = compact_plain (tree_of_change_record h.change) text h.is_text
+change_plain form (Some a) text h = compact_plain (tree_of_change_record (change_tree a.change)) text h.is_text
 change_plain form None text h = absurd h
 
 pub snapshot_plain : (form : FormTree) (t : TripleTree) (text : List ℕ) → IsSnapshotText form t text → has_no_end text ≡ true

@@ -14,7 +14,7 @@ use Rattle.store_session.specs.Stands.{step_of}
 use Rattle.edit_undo.specs.Undone.{BothTrees, BringsBack, no_words, undone_entry, undone_behind, undone_first, undone_each, undone}
 use Rattle.edit_undo.specs.UndoneViews.{both_tree}
 use Rattle.edit_undo.specs.declared.both.BothWords.{BothWords}
-use Rattle.kept_sessions.specs.Changes.{IsWayBack}
+use Rattle.kept_sessions.specs.Changes.{HasWayBack}
 
 module _ (left right : TyTree) (carried : Side → CompTree → WordTree → Option Translated) where
   -- entries that are accepted are undone, and lead to the same triple
@@ -78,10 +78,6 @@ Finds r form before after changes = IfOk r (λ found. option_map (λ (w : BothWo
 
 abbrev pub FindsBack : {E : Type 0} → Result (Option BothWords) E → FormTree → TripleTree → TripleTree → Type 0
 FindsBack r form before after = IfOk r (λ found. IfSome found (λ (w : BothWords). BringsBack (left_type form) (right_type form) (both_tree w) after before))
-
-abbrev pub HasWayBack : {E : Type 0} → Result (Option BothWords) E → FormTree → TripleTree → ChangeTree → Type 0
-HasWayBack r form before change = IfOk r (λ found. MatchOption found (undone (left_type form) (right_type form) (translate form) before (change ∷ []) ≡ None)
-    (λ (w : BothWords). IsWayBack form before change (both_tree w)))
 
 found_here : {E : Type 0} (r : Result (Option BothWords) E) (form : FormTree) (before after : TripleTree) (change : ChangeTree)
     → Finds r form before after (change ∷ []) → FindsBack r form before after → HasWayBack r form before change

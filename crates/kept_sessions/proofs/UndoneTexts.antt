@@ -2,10 +2,10 @@
 use Rattle.std.proofs.Common.{◌≡◌, ℕ, List, [], ◌∷◌, Option, Some, None, Ok, sym, ap, subst, ◌∙◌}
 use Rattle.texts.specs.declared.side.Side.{Side}
 use Rattle.texts.specs.declared.side.Side.TheVariants.{Left, Right}
-use Rattle.edit_journal.specs.EntryJson.{change_of_line}
 use Rattle.edit_journal.specs.Lines.{line_of, is_blank}
 use Rattle.edit_journal.specs.declared.line.Line.{Line}
 use Rattle.edit_module.specs.Changes.{ChangeTree}
+use Rattle.edit_module.specs.Views.{change_tree}
 use Rattle.edit_module.specs.Words.{WordTree}
 use Rattle.edit_session.specs.Step.{TripleTree}
 use Rattle.edit_session.specs.Views.{triple_tree}
@@ -16,7 +16,7 @@ use Rattle.edit_undo.specs.Undone.{BothTrees, BringsBack, undone}
 use Rattle.kept_sessions.specs.Changes.{IsKept, IsWayBack, IsUndoText, HasUndoText, IsWordBack}
 use Rattle.kept_sessions.specs.Steps.{form_of, IsLineStep}
 use Rattle.kept_sessions.specs.declared.outcome.Outcome.TheVariants as outcome
-use Rattle.kept_sessions.specs.declared.running.Accepted.{Accepted}
+use Rattle.kept_sessions.specs.declared.accepted.Accepted.{Accepted}
 use Rattle.kept_sessions.specs.declared.running.Running.{Running}
 use Rattle.kept_sessions.proofs.LogRecords.{same_change, form_stays, Stepped, item_stepped, done_item}
 use Rattle.kept_sessions.proofs.UndoneSteps.{change_undone}
@@ -39,13 +39,12 @@ kept_back : (before after : Running) (line : Line) (s : Side) (text : List ℕ) 
     → (a : Accepted) × (k : IsUndoText (form_of after) a s text)
     × BringsBack (left_type (form_of after)) (right_type (form_of after)) k.words (triple_tree after.session.triple) (triple_tree before.session.triple)
 kept_back before after line s text (Some a) form m kept k =
-    let t = triple_tree before.session.triple in let u = triple_tree after.session.triple in
-    let as_line : change_of_line line ≡ Ok k.change = ap change_of_line (sym kept.line_is) ∙ k.is in
-    let same = same_change line m.change k.change m.is as_line in
+    let t = triple_tree before.session.triple in let u = triple_tree after.session.triple in let change = change_tree a.change in
+    let same = same_change line m.change change m.is kept.change_is in
     let step = subst (λ (l : FormTree). step_of l t m.change ≡ Some (Ok (u, m.words))) (sym form) m.step in
     let step_k = subst (λ c. step_of (form_of after) t c ≡ Some (Ok (u, m.words))) same step in
-    let way = subst (λ x. IsWayBack (form_of after) x k.change k.words) kept.before_is k.way in
-    (a, k, way_back (form_of after) t u k.change k.words m.words step_k way)
+    let way = subst (λ x. IsWayBack (form_of after) x change k.words) kept.before_is k.way in
+    (a, k, way_back (form_of after) t u change k.words m.words step_k way)
 kept_back before after line s text None form m kept k = absurd kept
 
 line_back : (line : List ℕ) (before after : Running) (s : Side) (text : List ℕ) → IsLineStep before line outcome.Done after → HasUndoText (form_of after) after.accepted s text

@@ -2,6 +2,7 @@ pub mod Changes
 pub mod Cutting
 pub mod Journals
 pub mod Kept
+pub mod Lenses
 pub mod Logs
 pub mod Records
 pub mod States

@@ -24,7 +24,7 @@ use Rattle.kept_sessions.specs.declared.outcome.Part.{Part}
 use Rattle.kept_sessions.specs.declared.outcome.Part.TheVariants as part
 use Rattle.kept_sessions.specs.declared.outcome.StateFault.{StateFault}
 use Rattle.kept_sessions.specs.declared.outcome.StateFault.TheVariants as fault
-use Rattle.kept_sessions.specs.declared.running.Accepted.{Accepted}
+use Rattle.kept_sessions.specs.declared.accepted.Accepted.{Accepted}
 use Rattle.kept_sessions.specs.declared.running.Running.{Running}
 
 -- ---- what is read

@@ -1,33 +1,31 @@
 //! The texts of the last change: its payload, and the words that take the documents back over it.
-ghost use Rattle.std.specs.Prelude.{◌≡◌, ◌≤◌, ◌∷◌, [], true, List, Ok, None, IfOk, IfSome, MatchOption};
+ghost use Rattle.std.specs.Option.{ForSome};
+ghost use Rattle.std.specs.Prelude.{◌≡◌, ◌≤◌, true, IfOk, MatchOption};
 ghost use Rattle.doc_values.specs.Types.{height};
-ghost use Rattle.edit_journal.specs.EntryJson.{change_counts_fit, change_of_line};
-ghost use Rattle.edit_module.specs.Changes.{ChangeTree};
-ghost use Rattle.edit_module.specs.Views.{change_tree, word_tree};
+ghost use Rattle.edit_journal.specs.EntryJson.{change_counts_fit};
+ghost use Rattle.edit_module.specs.Views.{change_tree};
 ghost use Rattle.edit_json.specs.WordJson.{tree_of_word};
 ghost use Rattle.edit_session.specs.Views.{triple_tree};
-ghost use Rattle.pair_answers.specs.ItemRuns.{IsInStepFor};
-ghost use Rattle.lens_core.specs.Translation.{translate};
-ghost use Rattle.lens_forms.specs.Forms.{form_tree, left_type, right_type};
+ghost use Rattle.lens_forms.specs.Forms.{FormTree, form_tree, left_type, right_type};
 ghost use Rattle.lens_forms.specs.declared.limits.TheConstants.{GREATEST_HEIGHT};
 ghost use Rattle.serde_json.specs.Written.{compact_text};
-ghost use Rattle.edit_undo.specs.Undone.{undone};
 ghost use Rattle.edit_undo.specs.UndoneViews.{both_tree};
 ghost use Rattle.kept_sessions.specs.Changes.{IsNoneMade, IsMade, IsChangeText, HasChangeText, IsUndoText, HasUndoText};
-ghost use Rattle.kept_sessions.specs.Changes.{IsWayBack, word_on};
+ghost use Rattle.kept_sessions.specs.Changes.{HasWayBack, word_on};
+ghost use Rattle.kept_sessions.specs.Steps.{session_form};
 
-use crate::resuming::session_at;
-use crate::running::Accepted;
-use edit_journal::{EntryFault, Line, read_entry};
+use crate::accepted::Accepted;
+use crate::shared::SharedLens;
+use crate::stepping::copy;
 use edit_json::append_word;
 use edit_module::Change;
-use edit_session::Triple;
+use edit_session::Session;
 use edit_undo::{BothWords, undo_changes};
-use lens_check::consistent;
 use lens_types::Typed;
 use std::alloc::{AllocError, Global};
+use std::slice;
 use store_records::change_payload;
-use texts::{Side, Twin};
+use texts::Side;
 
 // The payload of the last change. None if and only if there is none.
 pub(crate) fn change_text(
@@ -40,50 +38,18 @@ pub(crate) fn change_text(
         (λ text. HasChangeText (form_tree typed.now) last.now text.items)) }
 {
     match last {
-        Some(accepted) => line_text(alloc, typed, &accepted.line),
+        Some(accepted) => Ok(Some(payload_text(alloc, typed, accepted)?)),
         None => Ok(None),
     }
 }
 
-// The payload of the change that a line is. None if and only if it is not a change.
-fn line_text(alloc: Global, typed: &Typed, line: &Line) -> Result<Option<Vec<u8>>, AllocError>
-    ensures { IfOk result (λ found. MatchOption found
-        ((change : ChangeTree) → change_of_line line.now ≡ Ok change → ⊥)
-        (λ text. IsChangeText (form_tree typed.now) line.now text.items)) }
-{
-    match change_of(alloc, line)? {
-        Some(change) => Ok(Some(payload_text(alloc, typed, line, &change)?)),
-        None => Ok(None),
-    }
-}
-
-// The change that a line is. None if and only if it is not one.
-fn change_of(alloc: Global, line: &Line) -> Result<Option<Change>, AllocError>
-    ensures change { IfOk result (λ found. MatchOption found
-        ((change : ChangeTree) → change_of_line line.now ≡ Ok change → ⊥)
-        (λ change. change_of_line line.now ≡ Ok (change_tree change))) }
-    ensures fits { IfOk result (λ found. IfSome found (λ change. change_counts_fit (change_tree change) ≡ true)) }
-{
-    match read_entry(alloc, line) {
-        Ok(change) => Ok(Some(change)),
-        Err(EntryFault::NoMemory) => Err(AllocError),
-        Err(_) => Ok(None),
-    }
-}
-
-// The payload of a change.
-fn payload_text(
-    alloc: Global,
-    typed: &Typed,
-    line: &Line,
-    change: &Change,
-) -> Result<Vec<u8>, AllocError>
-    requires is { change_of_line line.now ≡ Ok (change_tree change.now) }
-    requires fits { change_counts_fit (change_tree change.now) ≡ true }
-    ensures { IfOk result (λ text. IsChangeText (form_tree typed.now) line.now text.items) }
+// The payload of a change that was accepted.
+fn payload_text(alloc: Global, typed: &Typed, accepted: &Accepted) -> Result<Vec<u8>, AllocError>
+    ensures { IfOk result
+        (λ text. IsChangeText (form_tree typed.now) (change_tree accepted.now.change) text.items) }
 {
     types_are_low(typed);
-    let payload = change_payload(alloc, change)?;
+    let payload = change_payload(alloc, &accepted.change)?;
     Ok(payload.into_vec())
 }
 
@@ -95,64 +61,46 @@ fn types_are_low(typed: &Typed)
     let (_left, _right) = (typed.left(), typed.right());
 }
 
-// The word that takes the document of a side back over the last change. None if and only if there is none.
+// The word that takes the document of a side of a session back over the last change. None if and only if there is none.
 pub(crate) fn undo_text(
     alloc: Global,
-    typed: &Typed,
+    session: &Session<SharedLens>,
     last: &Option<Accepted>,
     side: Side,
 ) -> Result<Option<Vec<u8>>, AllocError>
+    requires one_lens { ForSome last.now (λ accepted. accepted.before.lens ≡ session.now.lens) }
     ensures { IfOk result (λ found. MatchOption found
-        (IsNoneMade (form_tree typed.now) last.now)
-        (λ text. HasUndoText (form_tree typed.now) last.now side text.items)) }
+        (IsNoneMade (session_form session.now) last.now)
+        (λ text. HasUndoText (session_form session.now) last.now side text.items)) }
 {
     match last {
-        Some(accepted) => accepted_text(alloc, typed, accepted, side),
+        Some(accepted) => accepted_text(alloc, accepted, side),
         None => Ok(None),
     }
 }
 
 fn accepted_text(
     alloc: Global,
-    typed: &Typed,
     accepted: &Accepted,
     side: Side,
 ) -> Result<Option<Vec<u8>>, AllocError>
     ensures { IfOk result (λ found. MatchOption found
-        (IsMade (form_tree typed.now) accepted.now → ⊥)
-        (λ text. IsUndoText (form_tree typed.now) accepted.now side text.items)) }
+        (IsMade (session_form accepted.now.before) accepted.now → ⊥)
+        (λ text. IsUndoText (session_form accepted.now.before) accepted.now side text.items)) }
 {
-    let before = &accepted.before;
-    let Some(change) = change_of(alloc, &accepted.line)? else {
-        return Ok(None);
-    };
-    if !consistent(alloc, typed, &before.left, &before.comp, &before.right)? {
-        return Ok(None);
-    }
-    match words_back(alloc, typed, before.twin(alloc)?, change)? {
+    match words_back(alloc, accepted)? {
         Some(words) => Ok(Some(word_text(alloc, &words, side)?)),
         None => Ok(None),
     }
 }
 
-// The words that take the documents back over a change of a triple that is consistent. None if and only if it is
-// refused.
-#[tactic(auto, using(lens_flat::proofs::FormLenses::is_lens_of))]
-fn words_back(
-    alloc: Global,
-    typed: &Typed,
-    before: Triple,
-    change: Change,
-) -> Result<Option<BothWords>, AllocError>
-    requires in_step { IsInStepFor (form_tree typed.now) (triple_tree before) }
-    ensures { IfOk result (λ found. MatchOption found
-        (undone (left_type (form_tree typed.now)) (right_type (form_tree typed.now)) (translate (form_tree typed.now))
-        (triple_tree before) (change_tree change ∷ []) ≡ None)
-        (λ words. IsWayBack (form_tree typed.now) (triple_tree before) (change_tree change) (both_tree words))) }
+// The words that take the documents back over a change. None if and only if it is refused.
+fn words_back(alloc: Global, accepted: &Accepted) -> Result<Option<BothWords>, AllocError>
+    ensures { HasWayBack result (session_form accepted.now.before) (triple_tree accepted.now.before.triple)
+        (change_tree accepted.now.change) }
 {
-    let changes = Vec::from_array(alloc, [change])?;
-    let mut session = session_at(alloc, typed, before)?;
-    undo_changes(alloc, &mut session, &changes)
+    let mut session = copy(alloc, &accepted.before)?;
+    undo_changes(alloc, &mut session, slice::from_ref(&accepted.change))
 }
 
 // The text of the word of a side.

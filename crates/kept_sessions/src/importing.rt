@@ -17,11 +17,11 @@ use crate::opening::{closed, first_session};
 use crate::outcome::StateFault;
 use crate::resuming::document_of_text;
 use crate::running::Running;
+use crate::shared::SharedLens;
 use doc_values::{Doc, Ty};
 use edit_inverse::construct;
 use edit_module::Entry;
 use edit_session::{Session, StepFault};
-use lens_flat::Flat;
 use lens_types::Typed;
 use std::alloc::{AllocError, Global};
 use texts::Side;
@@ -88,7 +88,7 @@ fn session_with(
     typed: &Typed,
     side: Side,
     doc: &Doc,
-) -> Result<Session<Flat>, AllocError>
+) -> Result<Session<SharedLens>, AllocError>
     requires typed { has (side_type (form_tree typed.now) side) (doc_tree doc.now) ≡ true }
     ensures form { IfOk result (λ s. session_form s ≡ form_tree typed.now) }
     ensures brings { IfOk result (λ s. Brings (form_tree typed.now) side (doc_tree doc.now) (triple_tree s.triple)) }

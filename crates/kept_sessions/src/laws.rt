@@ -20,7 +20,7 @@ ghost use Rattle.kept_sessions.specs.declared.kept.Kept.TheVariants.{Open};
 ghost use Rattle.kept_sessions.specs.declared.outcome.Outcome.TheVariants.{Done};
 ghost use Rattle.kept_sessions.specs.declared.outcome.Part.TheVariants.{State, Left, Complement, Right, Snapshot};
 ghost use Rattle.kept_sessions.specs.declared.outcome.Part.TheVariants.{Change, UndoLeft, UndoRight};
-ghost use Rattle.kept_sessions.specs.declared.running.Accepted.{Accepted as AcceptedValue};
+ghost use Rattle.kept_sessions.specs.declared.accepted.Accepted.{Accepted as AcceptedValue};
 ghost use Rattle.kept_sessions.specs.declared.running.Running.{Running as RunningValue};
 
 /// A session that is opened, given the lines of a journal and then shown answers as a run: its texts, one after

@@ -8,6 +8,7 @@
 //! session stand for it. No device, no pointer and no number of a status is named here.
 #![tactic(auto)]
 
+mod accepted;
 mod beginning;
 mod changes;
 mod importing;
@@ -20,9 +21,13 @@ mod records;
 mod reopening;
 mod resuming;
 mod running;
+mod shared;
+mod stepping;
 
+pub use accepted::Accepted;
 pub use kept::Kept;
 pub use outcome::{Outcome, Part, StateFault};
 pub use records::cut;
 pub use resuming::{complement_of_text, document_of_text};
-pub use running::{Accepted, Running};
+pub use running::Running;
+pub use shared::SharedLens;

@@ -11,10 +11,10 @@ ghost use Rattle.kept_sessions.specs.Records.{IsFirstRecord};
 use crate::beginning::{Begun, begin};
 use crate::kept::Kept;
 use crate::running::Running;
+use crate::shared::SharedLens;
 use accepted_programs::Refused;
 use answer_text::refused_part_line;
 use edit_session::Session;
-use lens_flat::Flat;
 use lens_types::Typed;
 use std::alloc::{AllocError, Global};
 
@@ -40,11 +40,11 @@ fn started(alloc: Global, begun: Begun) -> Kept
 }
 
 // The session at the first triple of a lens.
-pub(crate) fn first_session(alloc: Global, typed: &Typed) -> Result<Session<Flat>, AllocError>
+pub(crate) fn first_session(alloc: Global, typed: &Typed) -> Result<Session<SharedLens>, AllocError>
     ensures form { IfOk result (λ s. form_tree s.lens.typed ≡ form_tree typed.now) }
     ensures first { IfOk result (λ s. triple_tree s.triple ≡ triple_at_first (form_tree typed.now)) }
 {
-    let lens = Flat::compile(alloc, typed)?;
+    let lens = SharedLens::compile(alloc, typed)?;
     Session::start(alloc, lens)
 }
 

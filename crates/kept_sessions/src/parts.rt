@@ -1,4 +1,5 @@
 //! The texts of the parts of a state and of the last change.
+ghost use Rattle.std.specs.Option.{ForSome};
 ghost use Rattle.std.specs.Prelude.{◌≡◌, ◌≤◌, false, IfOk, MatchOption, IsTrue};
 ghost use Rattle.serde_json.specs.View.{view};
 ghost use Rattle.serde_json.specs.Data.{depth};
@@ -16,14 +17,14 @@ ghost use Rattle.kept_sessions.specs.States.{HasNoChange, IsPartText, IsTextOf, 
 ghost use Rattle.kept_sessions.specs.States.{IsSnapshotText};
 ghost use Rattle.kept_sessions.specs.Steps.{session_form};
 
+use crate::accepted::Accepted;
 use crate::changes::{change_text, undo_text};
 use crate::outcome::Part;
-use crate::running::Accepted;
+use crate::shared::SharedLens;
 use complement_file::write_comp;
 use doc_values::{Doc, Ty};
 use edit_session::Session;
 use lens_core::Comp;
-use lens_flat::Flat;
 use lens_types::Typed;
 use pair_answers::state_lines;
 use program_writing::write_type;
@@ -37,10 +38,11 @@ use value_json::{write_compact, write_doc};
 #[tactic(auto, using(lens_flat::proofs::FormLenses::is_lens_of))]
 pub(crate) fn part_text(
     alloc: Global,
-    session: &Session<Flat>,
+    session: &Session<SharedLens>,
     last: &Option<Accepted>,
     part: Part,
 ) -> Result<Option<Vec<u8>>, AllocError>
+    requires one_lens { ForSome last.now (λ accepted. accepted.before.lens ≡ session.now.lens) }
     ensures { IfOk result (λ found. MatchOption found
         (HasNoChange (session_form session.now) last.now part)
         (λ text. IsPartText (session_form session.now) (triple_tree session.now.triple) last.now part text.items)) }
@@ -55,8 +57,8 @@ pub(crate) fn part_text(
         Part::RightType => Ok(Some(type_text(alloc, typed.right())?)),
         Part::Snapshot => Ok(Some(snapshot_text(alloc, session)?)),
         Part::Change => change_text(alloc, typed, last),
-        Part::UndoLeft => undo_text(alloc, typed, last, Side::Left),
-        Part::UndoRight => undo_text(alloc, typed, last, Side::Right),
+        Part::UndoLeft => undo_text(alloc, session, last, Side::Left),
+        Part::UndoRight => undo_text(alloc, session, last, Side::Right),
     }
 }
 
@@ -88,7 +90,7 @@ fn type_text(alloc: Global, ty: &Ty) -> Result<Vec<u8>, AllocError>
 }
 
 // The payload of a snapshot of the session's triple.
-fn snapshot_text(alloc: Global, session: &Session<Flat>) -> Result<Vec<u8>, AllocError>
+fn snapshot_text(alloc: Global, session: &Session<SharedLens>) -> Result<Vec<u8>, AllocError>
     ensures { IfOk result
         (λ text. IsSnapshotText (session_form session.now) (triple_tree session.now.triple) text.items) }
 {

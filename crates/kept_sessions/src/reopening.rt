@@ -14,7 +14,7 @@ ghost use Rattle.kept_sessions.specs.Records.{version_text};
 use crate::kept::Kept;
 use crate::records::cut;
 use crate::running::Running;
-use lens_flat::Flat;
+use crate::shared::SharedLens;
 use lens_io::Payloads;
 use std::alloc::{AllocError, Global};
 use store_records::{RecordFault, StoredLens, stored_lens, version_payload};
@@ -44,7 +44,7 @@ fn reopen_payloads(alloc: Global, payloads: &Payloads) -> Kept
 }
 
 // What was opened, with the version record of a log of version 1.
-fn with_version(alloc: Global, opened: OpenedRecords<Flat>) -> Kept
+fn with_version(alloc: Global, opened: OpenedRecords<SharedLens>) -> Kept
     ensures { (records : List (List ℕ))
         → stands records ≡ Ok (standing (form_tree opened.session.lens.typed) (triple_tree opened.session.triple)
         opened.count opened.version)
@@ -68,7 +68,10 @@ fn version_text(alloc: Global, version: u64) -> Result<Vec<u8>, AllocError>
 }
 
 // The session for which payloads stand, over the lens of the first one.
-fn open_records(alloc: Global, payloads: &Payloads) -> Result<OpenedRecords<Flat>, RecordFault>
+fn open_records(
+    alloc: Global,
+    payloads: &Payloads,
+) -> Result<OpenedRecords<SharedLens>, RecordFault>
     ensures stands { MatchResult result
         (λ o. stands payloads.now
         ≡ Ok (standing (form_tree o.session.lens.typed) (triple_tree o.session.triple) o.count o.version))
@@ -87,7 +90,7 @@ fn open_with(
     alloc: Global,
     stored: &StoredLens,
     payloads: &Payloads,
-) -> Result<OpenedRecords<Flat>, RecordFault>
+) -> Result<OpenedRecords<SharedLens>, RecordFault>
     requires stored { stored_lens payloads.now ≡ Some (form_tree stored.now.typed, stored.now.version) }
     ensures stands { MatchResult result
         (λ o. stands payloads.now
@@ -96,6 +99,6 @@ fn open_with(
     ensures in_step { IfOk result
         (λ o. IsInStepFor (form_tree o.session.lens.typed) (triple_tree o.session.triple)) }
 {
-    let lens = Flat::compile(alloc, &stored.typed)?;
+    let lens = SharedLens::compile(alloc, &stored.typed)?;
     store_session::reopen(alloc, lens, stored, payloads)
 }

@@ -18,14 +18,16 @@ use crate::kept::Kept;
 use crate::opening::closed;
 use crate::outcome::StateFault;
 use crate::running::Running;
+use crate::shared::SharedLens;
 use complement_file::{CompFault, read_comp};
 use doc_values::{Doc, Ty};
 use edit_session::{Session, Triple};
+use json::Scratch;
 use lens_check::consistent;
 use lens_core::Comp;
-use lens_flat::Flat;
 use lens_types::Typed;
 use serde_json::Value;
+use state_tokens::{complement_of_tokens, document_of_tokens};
 use std::alloc::{AllocError, Global};
 use store_records::read_tree;
 use value_json::{DocFault, read_doc};
@@ -72,13 +74,13 @@ pub(crate) fn session_at(
     alloc: Global,
     typed: &Typed,
     triple: Triple,
-) -> Result<Session<Flat>, AllocError>
+) -> Result<Session<SharedLens>, AllocError>
     requires in_step { IsInStepFor (form_tree typed.now) (triple_tree triple) }
     ensures form { IfOk result (λ s. form_tree s.lens.typed ≡ form_tree typed.now) }
     ensures triple { IfOk result (λ s. triple_tree s.triple ≡ triple_tree triple) }
     ensures in_step { IfOk result (λ s. IsInStepFor (form_tree s.lens.typed) (triple_tree s.triple)) }
 {
-    let lens = Flat::compile(alloc, typed)?;
+    let lens = SharedLens::compile(alloc, typed)?;
     let Triple { left, comp, right } = triple;
     Ok(Session::resume(alloc, lens, left, comp, right))
 }
@@ -130,7 +132,21 @@ fn read_triple(
 /// The document of a type that a text is the JSON of. None if and only if there is none.
 ///
 /// The only error is running out of memory.
+#[tactic(auto, using(crate::proofs::TokenTexts::document_text))]
 pub fn document_of_text(alloc: Global, ty: &Ty, text: &[u8]) -> Result<Option<Doc>, AllocError>
+    ensures { IfOk result (λ found. MatchOption found
+        (IsNotOfType (ty_tree ty.now) text.now)
+        (λ doc. IsDocumentText (ty_tree ty.now) text.now (doc_tree doc))) }
+{
+    let mut scratch = Scratch::new(alloc);
+    match document_of_tokens(alloc, ty, text, &mut scratch) {
+        Some(doc) => Ok(Some(doc)),
+        None => document_by_tree(alloc, ty, text),
+    }
+}
+
+// The same, by the tree of the text.
+fn document_by_tree(alloc: Global, ty: &Ty, text: &[u8]) -> Result<Option<Doc>, AllocError>
     ensures { IfOk result (λ found. MatchOption found
         (IsNotOfType (ty_tree ty.now) text.now)
         (λ doc. IsDocumentText (ty_tree ty.now) text.now (doc_tree doc))) }
@@ -156,11 +172,25 @@ fn document_of_tree(alloc: Global, ty: &Ty, tree: &Value) -> Result<Option<Doc>,
 /// The complement of a lens that a text is the JSON of. None if and only if there is none.
 ///
 /// The only error is running out of memory.
+#[tactic(auto, using(crate::proofs::TokenTexts::complement_text))]
 pub fn complement_of_text(
     alloc: Global,
     typed: &Typed,
     text: &[u8],
 ) -> Result<Option<Comp>, AllocError>
+    ensures { IfOk result (λ found. MatchOption found
+        (IsNotOfForm (form_tree typed.now) text.now)
+        (λ comp. IsComplementText (form_tree typed.now) text.now (comp_tree comp))) }
+{
+    let mut scratch = Scratch::new(alloc);
+    match complement_of_tokens(alloc, typed, text, &mut scratch) {
+        Some(comp) => Ok(Some(comp)),
+        None => complement_by_tree(alloc, typed, text),
+    }
+}
+
+// The same, by the tree of the text.
+fn complement_by_tree(alloc: Global, typed: &Typed, text: &[u8]) -> Result<Option<Comp>, AllocError>
     ensures { IfOk result (λ found. MatchOption found
         (IsNotOfForm (form_tree typed.now) text.now)
         (λ comp. IsComplementText (form_tree typed.now) text.now (comp_tree comp))) }

@@ -2,7 +2,7 @@
 use Rattle.std.proofs.Common.{◌≡◌, ℕ, List, Bool, Option, None, Some, option_map, sym, ap, ap₂, ◌∙◌}
 use Rattle.std.specs.Prelude.{IfSome}
 use Rattle.lens_forms.specs.Forms.{FormTree}
-use Rattle.script_run.specs.declared.line_answers.Answer as stream
+use Rattle.script_run.specs.Answers as stream
 use Rattle.turn_link.specs.Links.{LinkTree}
 use Rattle.turn_link.specs.Views.{link_refusal}
 use Rattle.link_run.specs.Items.{LinkAnswerTree, is_refused_by_link}

@@ -8,7 +8,7 @@ use Rattle.lens_core.specs.Complements.{missing}
 use Rattle.lens_core.specs.Consistency.{IsConsistent}
 use Rattle.lens_core.specs.Translation.{translate}
 use Rattle.lens_flat.specs.declared.flat.ReadyForm.{ReadyForm}
-use Rattle.script_run.specs.declared.line_answers.Answer.{Answer}
+use Rattle.script_run.specs.Answers.{Answer}
 use Rattle.turn_link.specs.Links.{LinkTree, link_start}
 use Rattle.turn_link.specs.Laws.{IsLinked}
 use Rattle.turn_link.specs.LinkViews.{LinkOf, link_tree}

@@ -12,7 +12,7 @@ use Rattle.lens_core.specs.Complements.{missing}
 use Rattle.lens_core.specs.Consistency.{IsConsistent}
 use Rattle.lens_core.specs.Translation.{translate}
 use Rattle.form_steps.specs.LawsOfForms.{form_starts, form_edits}
-use Rattle.script_run.specs.declared.line_answers.Answer.{Answer}
+use Rattle.script_run.specs.Answers.{Answer}
 use Rattle.accepted_programs.proofs.AcceptedForms.{accepted_typed}
 use Rattle.script_run.specs.ScriptEnds.{EveryRunStaysInStep}
 use Rattle.script_run.proofs.StepsStay.{every_run as every_step}

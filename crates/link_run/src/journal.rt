@@ -1,5 +1,6 @@
 //! The lines of a script, one after another, over a link.
-ghost use Rattle.std.specs.Prelude.{◌≡◌, Ok, Some, IfOk};
+ghost use Rattle.std.specs.Prelude.{◌≡◌, Ok, IfOk, OnErr};
+ghost use Rattle.script_run.specs.Answers.{AddsAnswer};
 ghost use Rattle.turn_link.specs.LinkViews.{link_tree};
 ghost use Rattle.turn_link.specs.Views.{event_tree};
 ghost use Rattle.link_run.specs.EventJson.{event_of_line};
@@ -16,21 +17,25 @@ use lens_flat::Flat;
 use std::alloc::{AllocError, Global};
 use turn_link::{Event, Link, LinkFault};
 
-/// The answer line to a line that is not blank, which is the item with this number. The event happens
-/// to the link if the link does not refuse it. The only error is running out of memory.
+/// Adds the answer line to a line that is not blank, which is the item with this number. The event happens
+/// to the link if the link does not refuse it. Whether it was refused.
+///
+/// The only error is running out of memory, and then the text is as it was.
 pub(crate) fn answer_item(
     alloc: Global,
     link: &mut Link<Flat>,
     number: u64,
     line: &Line,
-) -> Result<script_run::Answer, AllocError>
-    ensures { IfOk result (λ a. link_line_answer (link_state_of link.old) number line.now
-        ≡ Some (link_state_of link.new, a)) }
+    text: &mut Vec<u8>,
+) -> Result<bool, AllocError>
+    ensures answer { IfOk result (AddsAnswer (link_line_answer (link_state_of link.old) number line.now)
+        (link_state_of link.new) text.old.items text.new.items) }
+    ensures unchanged { OnErr result (text.new.items ≡ text.old.items) }
 {
     let answer = take_link_item(alloc, link, line)?;
     let line = link_answer_line(alloc, number, &answer)?;
-    let refused = answer.is_refused();
-    Ok(script_run::Answer { line, refused })
+    text.extend_from_slice(line.as_slice())?;
+    Ok(answer.is_refused())
 }
 
 /// The answer to a line that is not blank, which makes the event happen that the line is.

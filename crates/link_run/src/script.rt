@@ -15,7 +15,7 @@ use edit_journal::Line;
 use lens_flat::Flat;
 use lens_types::Typed;
 use script_input::ProgramText;
-use script_run::{Answer, NotOpened, ProgramScript, ScriptState};
+use script_run::{NotOpened, ProgramScript, ScriptState};
 use std::alloc::{AllocError, Global};
 use texts::Bytes;
 use turn_link::Link;
@@ -53,8 +53,14 @@ impl ScriptState for LinkRun {
 
     ghost in_step = { IsInTurnsWith };
 
-    fn answer(&mut self, alloc: Global, number: u64, line: &Line) -> Result<Answer, AllocError> {
-        answer_item(alloc, &mut self.link, number, line)
+    fn answer(
+        &mut self,
+        alloc: Global,
+        number: u64,
+        line: &Line,
+        text: &mut Vec<u8>,
+    ) -> Result<bool, AllocError> {
+        answer_item(alloc, &mut self.link, number, line, text)
     }
 
     fn state_lines(&self, alloc: Global) -> Result<Bytes, AllocError> {

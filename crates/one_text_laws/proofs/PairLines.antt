@@ -13,7 +13,7 @@ use Rattle.pair_answers.specs.Answers.{answer_line}
 use Rattle.pair_answers.specs.ItemRuns.{JournalAnswer, items_of, run_from}
 use Rattle.pair_run.specs.Runs.{line_answer, numbered}
 use Rattle.script_run.specs.LineRuns.{answers_text, any_answer_refused, last_state, run_lines}
-use Rattle.script_run.specs.declared.line_answers.Answer.{Answer}
+use Rattle.script_run.specs.Answers.{Answer}
 
 abbrev pub Steps : Type 0
 Steps = List (TripleTree × JournalAnswer)

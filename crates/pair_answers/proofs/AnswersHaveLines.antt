@@ -1,6 +1,7 @@
 -- An answer that has a line has a tree, and what a fault of a line says of both.
-use Rattle.std.proofs.Common.{◌≡◌, ℕ, List, true, Option, None, Some, option_map, Result, Ok, Err, length, refl, sym, subst, ◌∙◌}
-use Rattle.std.specs.Prelude.{IfOk, IfSome}
+use Rattle.std.proofs.Common.{◌≡◌, ℕ, List, ◌++◌, true, Option, None, Some, option_map, Result, length, refl, sym, subst, ◌∙◌}
+use Rattle.std.specs.Prelude.{IfSome, OnOk}
+use Rattle.texts.proofs.Outcomes.{on_ok}
 use Rattle.std.specs.List.{list_all}
 use Rattle.std.proofs.lemmas.List.{length-map}
 use Rattle.edit_module.specs.Views.{word_tree, entry_tree, word_trees, entry_trees}
@@ -37,16 +38,16 @@ is_so P None a e h = cc
 is_so P (Some b) a e h = let same : b ≡ a = cc in subst P same h
 
 -- and its line is that of the cause
-pub fault_has_line : (o : Option LineFault) (number : ℕ) (line : List ℕ) → ((cause : LineFault) → o ≡ Some cause → line ≡ fault_line number cause)
-    → IfSome (option_map no_entry o) (λ (a : JournalAnswer). line ≡ answer_line number a)
-fault_has_line None number line h = tt
-fault_has_line (Some cause) number line h = h cause refl
+fault_added : (o : Option LineFault) (number : ℕ) (old new : List ℕ) → ((cause : LineFault) → o ≡ Some cause → new ≡ old ++ fault_line number cause)
+    → IfSome (option_map no_entry o) (λ (a : JournalAnswer). new ≡ old ++ answer_line number a)
+fault_added None number old new h = tt
+fault_added (Some cause) number old new h = h cause refl
 
-pub fault_line_is : {E : Type 0} (r : Result (List ℕ) E) (answer : PairAnswer) (fault : EntryFault) (number : ℕ) → answer ≡ NoEntry fault
-    → IfOk r (λ line. (cause : LineFault) → cause_of fault ≡ Some cause → line ≡ fault_line number cause)
-    → IfOk r (λ line. IfSome (answer_tree answer) (λ a. line ≡ answer_line number a))
-fault_line_is (Ok line) answer fault number is h = subst (λ x. IfSome (answer_tree x) (λ a. line ≡ answer_line number a)) (sym is) (fault_has_line (cause_of fault) number line h)
-fault_line_is (Err e) answer fault number is h = tt
+pub fault_line_added : {E : Type 0} (r : Result (Unit {0}) E) (answer : PairAnswer) (fault : EntryFault) (number : ℕ) (old new : List ℕ) → answer ≡ NoEntry fault
+    → OnOk r ((cause : LineFault) → cause_of fault ≡ Some cause → new ≡ old ++ fault_line number cause)
+    → OnOk r (IfSome (answer_tree answer) (λ a. new ≡ old ++ answer_line number a))
+fault_line_added r answer fault number old new is h =
+    on_ok r _ _ (λ f. subst (λ x. IfSome (answer_tree x) (λ a. new ≡ old ++ answer_line number a)) (sym is) (fault_added (cause_of fault) number old new f)) h
 
 -- a group that was accepted has a line
 pub words_counted : (es : List Entry) (ws : List Word) → Counted (entry_trees es) (word_trees ws) → (length ws ≡ length es) × (list_all counts_fit (word_trees ws) ≡ true)

@@ -12,7 +12,7 @@ use Rattle.pair_answers.specs.declared.answers.PairAnswer.TheVariants.{NoEntry}
 -- A word has a line if its counts fit, and words of a group if each has and there is one for each entry. Running out of
 -- memory is not a fault of a line.
 abbrev pub HasAnswerLine : PairAnswer → Type 0
-HasAnswerLine (Carried side w) = counts_fit (word_tree w) ≡ true
+HasAnswerLine (Carried entry w) = counts_fit (word_tree w) ≡ true
 HasAnswerLine (NoApply at cause) = Unit {0}
 HasAnswerLine (GroupCarried group words) =
     (length words ≡ length group) × (list_all counts_fit (word_trees words) ≡ true)

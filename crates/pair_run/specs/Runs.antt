@@ -13,7 +13,7 @@ use Rattle.pair_answers.specs.ItemRuns.{JournalAnswer, IsInStepFor, triple_at_fi
 use Rattle.lens_core.specs.Translation.{translate}
 use Rattle.lens_flat.specs.declared.flat.ReadyForm.{ReadyForm}
 use Rattle.lens_forms.specs.Forms.{FormTree, form_tree, left_type, right_type}
-use Rattle.script_run.specs.declared.line_answers.Answer.{Answer}
+use Rattle.script_run.specs.Answers.{Answer}
 
 -- the initial documents of a lens, with its missing complement
 abbrev pub first_pair : FormTree → FormTree × TripleTree

@@ -18,7 +18,7 @@ use Rattle.lens_core.specs.Consistency.{IsConsistent}
 use Rattle.lens_core.specs.Translation.{translate}
 use Rattle.lens_forms.specs.Forms.{FormTree, left_type, right_type}
 use Rattle.lens_forms.specs.Typing.{is_typed}
-use Rattle.script_run.specs.declared.line_answers.Answer.{Answer}
+use Rattle.script_run.specs.Answers.{Answer}
 use Rattle.pair_run.specs.Runs.{first_pair, numbered, line_answer, IsPairInStep}
 use Rattle.pair_run.specs.Scripts.{pair_script, types_script}
 use Rattle.pair_run.specs.Shown.{no_answer, IsShown}

@@ -4,7 +4,7 @@ use Rattle.std.specs.Prelude.{ℕ, List, [], ◌++◌, false, Option, Some}
 use Rattle.answer_text.specs.Lines.{type_line}
 use Rattle.edit_journal.specs.declared.line.Line.{Line}
 use Rattle.lens_forms.specs.Forms.{FormTree, left_type, right_type}
-use Rattle.script_run.specs.declared.line_answers.Answer.{Answer}
+use Rattle.script_run.specs.Answers.{Answer}
 use Rattle.texts.specs.declared.side.Side.TheVariants.{Left, Right}
 
 -- a state is the lens, from the start on

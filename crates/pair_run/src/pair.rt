@@ -1,21 +1,23 @@
 //! The state of `run`: a session that answers the journal of a script.
-ghost use Rattle.std.specs.Prelude.{◌≡◌, ℕ, List, IfOk, Ok, Some, Result};
+ghost use Rattle.std.specs.Prelude.{◌≡◌, ℕ, List, IfOk, OnErr, Ok, Result};
 ghost use Rattle.accepted_programs.specs.Program.{Refusal, lens_of};
 ghost use Rattle.accepted_programs.specs.Refused.{IsKnown, IsProgramRefusal};
 ghost use Rattle.lens_forms.specs.Forms.{FormTree, form_tree};
 ghost use Rattle.pair_run.specs.Runs.{first_pair, line_answer, pair_state_of, pair_state_text};
 ghost use Rattle.pair_run.specs.Scripts.{pair_script};
+ghost use Rattle.script_run.specs.Answers.{AddsAnswer};
 ghost use Rattle.script_run.specs.ScriptSteps.{Opens, IsNotOpened};
 
 use accepted_programs::Refused;
 use answer_text::refused_part_line;
 use edit_journal::Line;
 use edit_session::Session;
+use json::Scratch;
 use lens_flat::Flat;
 use lens_types::Typed;
-use pair_answers::{answer_line, state_lines, take_item};
+use pair_answers::{add_answer_line, state_lines, take_item};
 use script_input::ProgramText;
-use script_run::{Answer, NotOpened, ProgramScript, ScriptState};
+use script_run::{NotOpened, ProgramScript, ScriptState};
 use std::alloc::{AllocError, Global};
 use texts::Bytes;
 
@@ -23,6 +25,8 @@ use texts::Bytes;
 #[derive(Drop)]
 pub struct PairRun {
     pub session: Session<Flat>,
+    // Room for reading lines, which says nothing of the state.
+    scratch: Scratch,
 }
 
 impl ScriptState for PairRun {
@@ -52,8 +56,21 @@ impl ScriptState for PairRun {
 
     ghost in_step = { IsPairInStep };
 
-    fn answer(&mut self, alloc: Global, number: u64, line: &Line) -> Result<Answer, AllocError> {
-        answer_item(alloc, &mut self.session, number, line)
+    fn answer(
+        &mut self,
+        alloc: Global,
+        number: u64,
+        line: &Line,
+        text: &mut Vec<u8>,
+    ) -> Result<bool, AllocError> {
+        answer_item(
+            alloc,
+            &mut self.session,
+            number,
+            line,
+            &mut self.scratch,
+            text,
+        )
     }
 
     fn state_lines(&self, alloc: Global) -> Result<Bytes, AllocError> {
@@ -61,20 +78,22 @@ impl ScriptState for PairRun {
     }
 }
 
-// The answer line of the item with this number, which steps the session by a change that applies.
+// Adds the answer line of the item with this number, which steps the session by a change that applies.
 fn answer_item(
     alloc: Global,
     session: &mut Session<Flat>,
     number: u64,
     line: &Line,
-) -> Result<Answer, AllocError>
-    ensures { IfOk result
-        (λ a. line_answer (pair_state_of session.old) number line.now ≡ Some (pair_state_of session.new, a)) }
+    scratch: &mut Scratch,
+    text: &mut Vec<u8>,
+) -> Result<bool, AllocError>
+    ensures answer { IfOk result (AddsAnswer (line_answer (pair_state_of session.old) number line.now)
+        (pair_state_of session.new) text.old.items text.new.items) }
+    ensures unchanged { OnErr result (text.new.items ≡ text.old.items) }
 {
-    let answer = take_item(alloc, session, line)?;
-    let line = answer_line(alloc, number, &answer)?;
-    let refused = answer.is_refused();
-    Ok(Answer { line, refused })
+    let answer = take_item(alloc, session, line, scratch)?;
+    add_answer_line(alloc, text, number, &answer)?;
+    Ok(answer.is_refused())
 }
 
 // The state lines of a session of a compiled lens.
@@ -116,7 +135,8 @@ fn first_run(alloc: Global, typed: &Typed) -> Result<PairRun, AllocError>
 {
     let lens = Flat::compile(alloc, typed)?;
     let session = Session::start(alloc, lens)?;
-    Ok(PairRun { session })
+    let scratch = Scratch::new(alloc);
+    Ok(PairRun { session, scratch })
 }
 
 // The refusal of a program part, with its line. Running out of memory is not a refusal.

@@ -12,7 +12,7 @@ use answer_text::{refused_part_line, type_line};
 use edit_journal::Line;
 use lens_types::Typed;
 use script_input::ProgramText;
-use script_run::{Answer, NotOpened, ProgramScript, ScriptState};
+use script_run::{NotOpened, ProgramScript, ScriptState};
 use std::alloc::{AllocError, Global};
 use texts::{Bytes, Side};
 
@@ -49,11 +49,14 @@ impl ScriptState for TypesShown {
     ghost in_step = { IsShown };
 
     /// No text: a line of the journal is not looked at.
-    fn answer(&mut self, alloc: Global, _number: u64, _line: &Line) -> Result<Answer, AllocError> {
-        Ok(Answer {
-            line: Bytes::from_vec(Vec::new(alloc)),
-            refused: false,
-        })
+    fn answer(
+        &mut self,
+        _alloc: Global,
+        _number: u64,
+        _line: &Line,
+        _text: &mut Vec<u8>,
+    ) -> Result<bool, AllocError> {
+        Ok(false)
     }
 
     fn state_lines(&self, alloc: Global) -> Result<Bytes, AllocError> {

@@ -5,7 +5,7 @@ use Rattle.value_json.proofs.Facts.{map_some}
 use Rattle.edit_journal.specs.Lines.{is_blank}
 use Rattle.edit_journal.specs.declared.line.Line.{Line}
 use Rattle.script_run.specs.LineRuns.{answers_text, run_lines}
-use Rattle.script_run.specs.declared.line_answers.Answer.{Answer}
+use Rattle.script_run.specs.Answers.{Answer}
 use Rattle.report_laws.specs.Beginnings.{BeginsWith}
 
 module _ {T : Type 0} where

@@ -1,5 +1,6 @@
 //! An input that is read in pieces, and handed on line by line.
-ghost use Rattle.std.specs.Prelude.{◌≡◌, ◌+◌, ◌<◌, ◌≤◌, [], length, IfOk, OnErr, IsErrOf};
+ghost use Rattle.std.specs.Bool.{then_some};
+ghost use Rattle.std.specs.Prelude.{◌≡◌, ◌+◌, ◌<◌, ◌≤◌, [], false, length, IfOk, OnErr, IsErrOf};
 ghost use Rattle.lens_io.specs.Causes.{Increased};
 ghost use Rattle.lens_io.specs.Takes.{count_of};
 ghost use Rattle.edit_journal.specs.Pieces.{nothing_fed, take_first, last_line};
@@ -99,6 +100,21 @@ impl Input {
         ensures count { self.new.taken ≡ self.old.taken }
     {
         self.lines.take_line()
+    }
+
+    /// Takes that line into one that is done with, whose room is used again. Whether there was one.
+    ///
+    /// `false` if and only if no such line is left. The only error is running out of memory, and then no line is taken.
+    /// `line` is as it was after `false`, and the empty line after an error.
+    pub fn take_line_into(&mut self, line: &mut Line) -> Result<bool, AllocError>
+        ensures taken { IfOk result (λ found.
+            (then_some found line.new, self.new.lines) ≡ take_first self.old.lines) }
+        ensures none_left { IfOk result (λ found. found ≡ false → line.new ≡ line.old) }
+        ensures unchanged { OnErr result (self.new.lines ≡ self.old.lines) }
+        ensures emptied { OnErr result (line.new ≡ Line.Text []) }
+        ensures count { self.new.taken ≡ self.old.taken }
+    {
+        self.lines.take_line_into(line)
     }
 
     /// The last line of the input, which no LF ends, if there is one. No ended line is left.

@@ -4,7 +4,7 @@ use Rattle.std.specs.Prelude.{OnOk, IfErr, MatchResult}
 use Rattle.std.proofs.KnownBytes.{Appends-nil, Appends-trans}
 use Rattle.lens_io.specs.Content.{AppendsFront}
 use Rattle.edit_journal.specs.declared.line.Line.{Line}
-use Rattle.script_run.specs.declared.line_answers.Answer.{Answer}
+use Rattle.script_run.specs.Answers.{Answer}
 use Rattle.script_run.specs.LineRuns.{Come, come, written_after}
 use Rattle.script_run.specs.declared.progress.Progress.{Progress}
 use Rattle.script_run.specs.LineEnds.{GivesAnswers, WritesPart, AnswersLines, StopsLines}

@@ -15,7 +15,7 @@ use Rattle.script_input.proofs.LastCalls.{but_last}
 use Rattle.script_run.specs.LineEnds.{Stage, AreAnswered, ComesTo, AnswersBefore, AnswersFirst as StreamFirst, StopsRun, EndsRun}
 use Rattle.script_run.specs.LineRuns.{come, answers_text, of_steps, run_lines, written, written_after}
 use Rattle.script_run.specs.declared.progress.Progress.{Progress}
-use Rattle.script_run.specs.declared.line_answers.Answer.{Answer}
+use Rattle.script_run.specs.Answers.{Answer}
 use Rattle.script_run.specs.declared.stopped.Stopped.{Stopped}
 use Rattle.script_run.specs.declared.stopped.Stopped.TheVariants as stop
 use Rattle.script_run.proofs.RunSteps.{at_end}

@@ -9,7 +9,7 @@ use Rattle.lens_io.specs.declared.sink.Sink as OfSink
 use Rattle.lens_io.specs.declared.source.Source as OfSource
 use Rattle.edit_journal.specs.Pieces.{FedLines, fed}
 use Rattle.edit_journal.specs.declared.line.Line.{Line}
-use Rattle.script_run.specs.declared.line_answers.Answer.{Answer}
+use Rattle.script_run.specs.Answers.{Answer}
 use Rattle.edit_journal.proofs.Feeding.{lines_at, joins, in_front}
 use Rattle.script_run.specs.LineRuns.{Come, come, written, written_after}
 use Rattle.script_run.specs.declared.progress.Progress.{Progress}

@@ -2,8 +2,9 @@
 use Rattle.std.proofs.Common.{◌≡◌, ℕ, ◌+◌, List, [], ◌∷◌, ◌++◌, append-nil, Bool, true, false, ◌||◌, cond, Option, Some, None, option_map, option_and_then, refl, sym, ap, ◌∙◌, append_assoc}
 use Rattle.edit_journal.specs.Lines.{is_blank}
 use Rattle.edit_journal.specs.declared.line.Line.{Line}
-use Rattle.script_run.specs.declared.line_answers.Answer.{Answer}
-use Rattle.script_run.specs.LineRuns.{Come, Written, last_state, answers_text, any_answer_refused, of_steps, after_progress, run_lines, written, written_after}
+use Rattle.script_run.specs.Answers.{Answer, AddsAnswer}
+use Rattle.script_run.specs.declared.progress.Progress.{Progress}
+use Rattle.script_run.specs.LineRuns.{Come, come, Written, last_state, answers_text, any_answer_refused, of_steps, after_progress, run_lines, written, written_after}
 use Rattle.texts.proofs.Tests.{or_false, or_grouped}
 
 abbrev done : {T : Type 0} → List ℕ → Bool → T → Option (Written T)
@@ -33,6 +34,15 @@ module _ {T : Type 0} (answer : T → ℕ → Line → Option (T × Answer)) whe
       ∙ ap (λ o. option_map (after_progress t old) (option_and_then more o)) taken
       ∙ after_item t t' old new a (run_lines answer t' (old.number + 1) lines) refused text
       ∙ ap (λ n. option_map (after_progress t' new) (run_lines answer t' n lines)) (sym number)
+
+  -- one more item whose answer was added at the end of the text
+  pub added_step : (t t' : T) (given : List ℕ) (old new : Progress) (line : Line) (lines : List Line) (refused : Bool) → is_blank line ≡ false
+      → AddsAnswer (answer t (old.number + 1) line) t' old.text.items new.text.items refused
+      → new.number ≡ old.number + 1 → new.refused ≡ (old.refused || refused)
+      → written_after answer t (come given old) (line ∷ lines) ≡ written_after answer t' (come given new) lines
+  added_step t t' given old new line lines refused full a number is_refused =
+      item_step t t' (come given old) (come given new) line (record { line = a.line; refused = refused }) lines full a.answers number is_refused
+      (ap (λ x. given ++ x) a.adds ∙ sym (append_assoc given old.text.items a.line))
 
   -- a blank line is passed over
   pub blank_line_step : (t : T) (p : Come) (line : Line) (lines : List Line) → is_blank line ≡ true

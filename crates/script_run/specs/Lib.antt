@@ -1,3 +1,4 @@
+pub mod Answers
 pub mod LineEnds
 pub mod LineRuns
 pub mod LineStops

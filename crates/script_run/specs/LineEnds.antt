@@ -10,7 +10,7 @@ use Rattle.lens_io.specs.declared.sink.Sink as OfSink
 use Rattle.lens_io.specs.declared.source.Source as OfSource
 use Rattle.edit_journal.specs.Pieces.{fed}
 use Rattle.edit_journal.specs.declared.line.Line.{Line}
-use Rattle.script_run.specs.declared.line_answers.Answer.{Answer}
+use Rattle.script_run.specs.Answers.{Answer}
 use Rattle.script_run.specs.LineRuns.{come, written, written_after}
 use Rattle.script_run.specs.declared.progress.Progress.{Progress}
 use Rattle.script_input.specs.Taking.{TakenInput}

@@ -6,7 +6,7 @@ use Rattle.std.specs.List.{list_any}
 use Rattle.edit_journal.specs.Lines.{is_blank}
 use Rattle.edit_journal.specs.declared.line.Line.{Line}
 use Rattle.script_run.specs.declared.progress.Progress.{Progress}
-use Rattle.script_run.specs.declared.line_answers.Answer.{Answer}
+use Rattle.script_run.specs.Answers.{Answer}
 
 -- How far a run has come: how many items it has read, whether it refused one, and all its answers.
 pub record Come : Type 0 where

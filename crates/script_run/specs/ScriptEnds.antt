@@ -10,7 +10,7 @@ use Rattle.lens_io.specs.declared.source.Source as OfSource
 use Rattle.edit_journal.specs.declared.line.Line.{Line}
 use Rattle.script_input.specs.declared.limits.TheConstants.{MOST_BYTES, PIECE_BYTES}
 use Rattle.script_run.specs.LineRuns.{answers_text, run_lines, states}
-use Rattle.script_run.specs.declared.line_answers.Answer.{Answer}
+use Rattle.script_run.specs.Answers.{Answer}
 use Rattle.script_input.specs.Coming.{has_separator, journal_lines, IsWhole}
 use Rattle.script_input.specs.Lines.{program_part, journal}
 use Rattle.script_run.specs.Report.{report}

@@ -7,7 +7,6 @@ ghost use Rattle.script_input.specs.Parts.{IsTaken, IsHead};
 ghost use Rattle.script_run.specs.ScriptEnds.{Ended, EveryRunStaysInStep};
 
 use crate::answer_pieces;
-use crate::lines::ScriptLines;
 use crate::report::{give_report, last_report};
 use crate::script_state::ScriptState;
 use command_ends::Status;
@@ -40,16 +39,16 @@ pub fn answer_script<S: Source, K: Sink, A: ScriptState>(
     ensures sink_fault { result ≡ Status.SinkFault
         → SinkFailed K.Sink sink.old sink.new }
 {
-    let mut lines = ScriptLines { state };
-    let status = answer_lines(alloc, &mut lines, input, source, piece, sink);
-    drop(lines);
+    let mut state = state;
+    let status = answer_lines(alloc, &mut state, input, source, piece, sink);
+    drop(state);
     status
 }
 
-// The same for the lines that a state answers.
+// The same for a state that is given back.
 fn answer_lines<S: Source, K: Sink, A: ScriptState>(
     alloc: Global,
-    lines: &mut ScriptLines<A>,
+    state: &mut A,
     input: Input,
     source: &mut S,
     piece: &mut [u8],
@@ -61,7 +60,7 @@ fn answer_lines<S: Source, K: Sink, A: ScriptState>(
     requires in_step { EveryRunStaysInStep A.ScriptState }
     ensures ended { (start : S) (front rest part : List ℕ) (program : A.Accepted)
         → IsTaken S.Source start source.old input front rest → IsHead front part
-        → A.accepted part ≡ Ok program → A.state lines.old.state ≡ A.start program
+        → A.accepted part ≡ Ok program → A.state state.old ≡ A.start program
         → Ended A.ScriptState S.Source K.Sink (start, sink.old) (source.new, sink.new) result }
     ensures source_fault { result ≡ Status.SourceFault
         → SourceFailed S.Source source.old source.new }
@@ -69,8 +68,8 @@ fn answer_lines<S: Source, K: Sink, A: ScriptState>(
         → SinkFailed K.Sink sink.old sink.new }
 {
     let mut input = input;
-    match answer_pieces(alloc, lines, &mut input, source, piece, sink) {
-        Ok(progress) => give_report(last_report(alloc, lines, progress, input), sink),
+    match answer_pieces(alloc, state, &mut input, source, piece, sink) {
+        Ok(progress) => give_report(last_report(alloc, state, progress, input), sink),
         Err(stopped) => stopped.status(),
     }
 }

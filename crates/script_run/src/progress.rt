@@ -1,12 +1,12 @@
 //! How far a run over the lines of an input has come.
-ghost use Rattle.std.specs.Prelude.{◌≡◌, ◌+◌, ◌^◌, ◌<◌, ◌≤◌, ◌∷◌, ◌++◌, ◌||◌, [], false, List, ℕ, OnErr, OnOk};
+ghost use Rattle.std.specs.Prelude.{◌≡◌, ◌+◌, ◌^◌, ◌<◌, ◌≤◌, ◌∷◌, ◌||◌, [], false, List, ℕ, OnErr, OnOk};
 ghost use Rattle.std.specs.Prelude.{option_to_list};
 ghost use Rattle.edit_journal.specs.Lines.{is_blank};
 ghost use Rattle.edit_journal.specs.Pieces.{last_line};
 ghost use Rattle.edit_journal.specs.declared.line.Line.{Line};
 ghost use Rattle.script_run.specs.LineRuns.{come, written_after, GoesOver};
 
-use crate::line_answers::LineAnswers;
+use crate::script_state::ScriptState;
 use edit_journal::{Line, is_blank};
 use script_input::Input;
 use std::alloc::{AllocError, Global};
@@ -34,25 +34,22 @@ impl Progress {
         }
     }
 
-    // Adds the answer line of the next item. The only error is running out of memory, and then nothing changes.
-    fn add(&mut self, line: &[u8], refused: bool) -> Result<(), AllocError>
+    // Counts the next item, whose answer line is in the text.
+    fn count(&mut self, refused: bool)
         requires fits { self.old.number + 1 < 2 ^ 64 }
-        ensures number { OnOk result (self.new.number ≡ self.old.number + 1) }
-        ensures refused { OnOk result (self.new.refused ≡ (self.old.refused || refused)) }
-        ensures text { OnOk result (self.new.text.items ≡ self.old.text.items ++ line.now) }
-        ensures unchanged { OnErr result (come [] self.new ≡ come [] self.old) }
+        ensures number { self.new.number ≡ self.old.number + 1 }
+        ensures refused { self.new.refused ≡ (self.old.refused || refused) }
+        ensures text { self.new.text.items ≡ self.old.text.items }
     {
-        self.text.extend_from_slice(line)?;
         self.number += 1;
         self.refused = self.refused || refused;
-        Ok(())
     }
 }
 
 /// Handles a line: a blank one is skipped, and any other is an item. The only error is running out of memory, and then
 /// the progress is as it was.
 #[tactic(auto, using(crate::proofs::RunSteps::blank_line_step))]
-pub fn handle_line<A: LineAnswers>(
+pub fn handle_line<A: ScriptState>(
     alloc: Global,
     state: &mut A,
     progress: &mut Progress,
@@ -72,7 +69,7 @@ pub fn handle_line<A: LineAnswers>(
 }
 
 // Handles a line that is not blank.
-fn answer_item<A: LineAnswers>(
+fn answer_item<A: ScriptState>(
     alloc: Global,
     state: &mut A,
     progress: &mut Progress,
@@ -86,13 +83,14 @@ fn answer_item<A: LineAnswers>(
     ensures number { OnOk result (progress.new.number ≡ progress.old.number + 1) }
     ensures unchanged { OnErr result (come [] progress.new ≡ come [] progress.old) }
 {
-    let answer = state.answer(alloc, progress.number + 1, line)?;
-    progress.add(answer.line.as_slice(), answer.refused)
+    let refused = state.answer(alloc, progress.number + 1, line, &mut progress.text)?;
+    progress.count(refused);
+    Ok(())
 }
 
 /// Handles the last line of an input that is at its end, which no LF ends, if there is one. The only error is running
 /// out of memory.
-pub fn handle_last<A: LineAnswers>(
+pub fn handle_last<A: ScriptState>(
     alloc: Global,
     state: &mut A,
     progress: &mut Progress,

@@ -3,7 +3,6 @@ ghost use Rattle.std.specs.Prelude.{◌≡◌, ◌+◌, ◌^◌, ◌<◌, ◌++�
 ghost use Rattle.lens_io.specs.Calls.{SinkFailed};
 ghost use Rattle.script_run.specs.ScriptSteps.{EndsReport, Gives, HasEnd};
 
-use crate::lines::ScriptLines;
 use crate::script_state::{NotOpened, ScriptState};
 use crate::{Progress, handle_last};
 use command_ends::Status;
@@ -22,19 +21,19 @@ pub struct Report {
 /// last line, which no LF ends, and the state lines. The only error is running out of memory.
 pub fn last_report<A: ScriptState>(
     alloc: Global,
-    lines: &mut ScriptLines<A>,
+    state: &mut A,
     progress: Progress,
     input: Input,
 ) -> Result<Report, AllocError>
     requires none { input.lines.ended ≡ [] }
     requires fits { progress.number + 1 < 2 ^ 64 }
-    ensures report { IfOk result (EndsReport A.ScriptState (A.state lines.old.state) progress input.lines.begun) }
+    ensures report { IfOk result (EndsReport A.ScriptState (A.state state.old) progress input.lines.begun) }
     ensures end { HasEnd result }
 {
     let mut progress = progress;
-    handle_last(alloc, lines, &mut progress, input)?;
+    handle_last(alloc, state, &mut progress, input)?;
     let status = Status::at_end(progress.refused);
-    let text = with_state(alloc, &lines.state, progress.text)?;
+    let text = with_state(alloc, state, progress.text)?;
     Ok(Report { text, status })
 }
 

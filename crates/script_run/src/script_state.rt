@@ -1,10 +1,9 @@
 //! What a script means: its program part, its journal and its last state.
-ghost use Rattle.std.specs.Prelude.{◌≡◌, ℕ, List, IfOk, Some, Result};
+ghost use Rattle.std.specs.Prelude.{◌≡◌, ℕ, List, IfOk, OnErr, Result};
 ghost use Rattle.std.specs.declared.option.Option.{Option};
 ghost use Rattle.edit_journal.specs.declared.line.Line.{Line};
-ghost use Rattle.script_run.specs.declared.line_answers.Answer.{Answer};
+ghost use Rattle.script_run.specs.Answers.{Answer, AddsAnswer};
 
-use crate::Answer;
 use edit_journal::Line;
 use std::alloc::{AllocError, Global};
 use texts::Bytes;
@@ -53,10 +52,19 @@ pub trait ScriptState: Drop {
     /// What holds of every state of a run.
     ghost in_step: { Accepted → State → Type 0 };
 
-    /// Answers the item with this number. The line is not blank. The only error is running out of memory.
-    fn answer(&mut self, alloc: Global, number: u64, line: &Line) -> Result<Answer, AllocError>
-        ensures answer { IfOk result (λ a.
-            answer (state self.old) number line.now ≡ Some (state self.new, a)) };
+    /// Answers the item with this number: the answer line goes behind the text. Whether the item was refused.
+    ///
+    /// The line is not blank. The only error is running out of memory, and then the text is as it was.
+    fn answer(
+        &mut self,
+        alloc: Global,
+        number: u64,
+        line: &Line,
+        text: &mut Vec<u8>,
+    ) -> Result<bool, AllocError>
+        ensures answer { IfOk result (AddsAnswer (answer (state self.old) number line.now) (state self.new)
+            text.old.items text.new.items) }
+        ensures unchanged { OnErr result (text.new.items ≡ text.old.items) };
 
     /// The state lines. The only error is running out of memory.
     fn state_lines(&self, alloc: Global) -> Result<Bytes, AllocError>

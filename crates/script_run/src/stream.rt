@@ -9,8 +9,8 @@ ghost use Rattle.script_input.specs.declared.limits.TheConstants.{MOST_BYTES, MO
 ghost use Rattle.script_run.specs.LineEnds.{GivesAnswers, WritesPart, AnswersLines, StopsLines, AnswersPiece};
 ghost use Rattle.script_run.specs.LineEnds.{AnswersPieces};
 
-use crate::line_answers::LineAnswers;
 use crate::progress::{Progress, handle_line};
+use crate::script_state::ScriptState;
 use crate::stopped::Stopped;
 use edit_journal::Line;
 use lens_io::{Sink, Source, give_all};
@@ -30,7 +30,7 @@ use std::alloc::Global;
 ///
 /// After `SourceFault` and `TooLong` the answers to all lines that have ended are written. After `SinkFault` and
 /// `NoMemory` at most the lines that ended in the last piece are unanswered.
-pub fn answer_pieces<S: Source, K: Sink, A: LineAnswers>(
+pub fn answer_pieces<S: Source, K: Sink, A: ScriptState>(
     alloc: Global,
     state: &mut A,
     input: &mut Input,
@@ -67,7 +67,7 @@ pub fn answer_pieces<S: Source, K: Sink, A: LineAnswers>(
 /// the answers to some of the lines that the piece has ended are made, and a prefix of them is written, and not all.
 /// After `NoMemory` the answers to some of these lines are written.
 #[tactic(auto, using(script_input::proofs::EndedLines::few_ended))]
-pub fn answer_piece<S: Source, K: Sink, A: LineAnswers>(
+pub fn answer_piece<S: Source, K: Sink, A: ScriptState>(
     alloc: Global,
     state: &mut A,
     progress: &mut Progress,
@@ -106,7 +106,7 @@ pub fn answer_piece<S: Source, K: Sink, A: LineAnswers>(
 }
 
 // Writes the answers to the lines that an LF has ended, and those that were not written before.
-fn answer_ended<K: Sink, A: LineAnswers>(
+fn answer_ended<K: Sink, A: ScriptState>(
     alloc: Global,
     state: &mut A,
     progress: &mut Progress,
@@ -130,17 +130,18 @@ fn answer_ended<K: Sink, A: LineAnswers>(
     ensures sink_fault { IsErrOf result Stopped.SinkFault
         → SinkFailed K.Sink sink.old sink.new }
 {
+    let mut line = Line::empty(alloc);
     'lines: loop {
-        match input.take_line() {
-            Ok(Some(line)) => answer_line(alloc, state, progress, &line, sink)?,
-            Ok(None) => return give_answers(progress, sink),
+        match input.take_line_into(&mut line) {
+            Ok(true) => answer_line(alloc, state, progress, &line, sink)?,
+            Ok(false) => return give_answers(progress, sink),
             Err(_) => return Err(out_of_memory(progress, sink)),
         }
     }
 }
 
 // Handles a line. The answers are written once there are `MOST_KEPT` bytes of them, and if memory runs out.
-fn answer_line<K: Sink, A: LineAnswers>(
+fn answer_line<K: Sink, A: ScriptState>(
     alloc: Global,
     state: &mut A,
     progress: &mut Progress,

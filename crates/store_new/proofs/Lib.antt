@@ -10,3 +10,4 @@ pub mod MakingEnds
 pub mod NewRoomsHold
 pub mod Reading
 pub mod ScriptsRead
+pub mod TokenDocuments

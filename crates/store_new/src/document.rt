@@ -15,9 +15,11 @@ ghost use Rattle.value_json.specs.DocumentJson.{document_of};
 use crate::refused::ImportRefusal;
 use doc_values::{Doc, Ty};
 use edit_journal::{Line, is_blank};
+use json::Scratch;
 use lens_io::{Source, TakeFault};
 use script_input::Input;
 use serde_json::Value;
+use state_tokens::document_of_tokens;
 use std::alloc::{AllocError, Global};
 use store_records::read_tree;
 use value_json::{DocFault, read_doc};
@@ -132,8 +134,23 @@ fn document_of_line(alloc: Global, ty: &Ty, line: &Line) -> Result<Doc, Document
     }
 }
 
-// The document of a text.
+// The document of a text: by its tokens where that serves, and otherwise by its tree.
+#[tactic(auto, using(crate::proofs::TokenDocuments::document_read))]
 fn document_of_text(alloc: Global, ty: &Ty, text: &[u8]) -> Result<Doc, DocumentFault>
+    ensures document { MatchResult result
+        (λ doc. if_json (ty_tree ty.now) (tree_of_text text.now) ≡ Ok (doc_tree doc))
+        (IsDocumentFault (if_json (ty_tree ty.now) (tree_of_text text.now))) }
+    ensures typed { IfOk result (λ doc. has (ty_tree ty.now) (doc_tree doc) ≡ true) }
+{
+    let mut scratch = Scratch::new(alloc);
+    match document_of_tokens(alloc, ty, text, &mut scratch) {
+        Some(doc) => Ok(doc),
+        None => document_by_tree(alloc, ty, text),
+    }
+}
+
+// The document of a text, by its tree.
+fn document_by_tree(alloc: Global, ty: &Ty, text: &[u8]) -> Result<Doc, DocumentFault>
     ensures document { MatchResult result
         (λ doc. if_json (ty_tree ty.now) (tree_of_text text.now) ≡ Ok (doc_tree doc))
         (IsDocumentFault (if_json (ty_tree ty.now) (tree_of_text text.now))) }

@@ -200,7 +200,7 @@ fn import_script<K: Sink, D: Disk>(
         (document_of_found (left_type (form_tree script.now.accepted.lens)) script.now.found))) }
 {
     match document_of(alloc, script.accepted.lens.left(), &script.found) {
-        Ok(doc) => bring(alloc, &script.accepted, &doc, sink, disk),
+        Ok(doc) => bring(alloc, &script.accepted, doc, sink, disk),
         Err(DocumentFault::Refused(refusal)) => {
             give_line(sink, refusal.line(), Status::SomeRefused)
         }
@@ -212,18 +212,18 @@ fn import_script<K: Sink, D: Disk>(
 fn bring<K: Sink, D: Disk>(
     alloc: Global,
     accepted: &Accepted,
-    doc: &Doc,
+    doc: Doc,
     sink: &mut K,
     disk: &mut D,
 ) -> Status
-    requires typed { has (left_type (form_tree accepted.now.lens)) (doc_tree doc.now) ≡ true }
+    requires typed { has (left_type (form_tree accepted.now.lens)) (doc_tree doc) ≡ true }
     ensures ends { EndsPlan K.Sink D.Disk (sink.old, disk.old) (sink.new, disk.new)
-        (IsImportStore (program_tree accepted.now.program) (form_tree accepted.now.lens) (doc_tree doc.now)) result }
+        (IsImportStore (program_tree accepted.now.program) (form_tree accepted.now.lens) (doc_tree doc)) result }
     ensures sink_fault { result ≡ Status.SinkFault → SinkFailed K.Sink sink.old sink.new }
     ensures disk_fault { result ≡ Status.DiskFault → DiskFailed D.Disk disk.old disk.new }
     ensures room { result ≡ Status.DiskFault → IfSome (D.room disk.old)
         (PlanHasNoRoom (IsImportStore (program_tree accepted.now.program) (form_tree accepted.now.lens)
-        (doc_tree doc.now))) }
+        (doc_tree doc))) }
 {
     let Ok(store) = import_store(alloc, accepted, doc) else {
         return Status::NoMemory;
@@ -232,10 +232,10 @@ fn bring<K: Sink, D: Disk>(
 }
 
 // The two payloads and the lines of a program and a document.
-fn import_store(alloc: Global, accepted: &Accepted, doc: &Doc) -> Result<StoreText, AllocError>
-    requires typed { has (left_type (form_tree accepted.now.lens)) (doc_tree doc.now) ≡ true }
+fn import_store(alloc: Global, accepted: &Accepted, doc: Doc) -> Result<StoreText, AllocError>
+    requires typed { has (left_type (form_tree accepted.now.lens)) (doc_tree doc) ≡ true }
     ensures { IfOk result (λ s. IsImportStore (program_tree accepted.now.program) (form_tree accepted.now.lens)
-        (doc_tree doc.now) s.payloads s.lines.items) }
+        (doc_tree doc) s.payloads s.lines.items) }
 {
     let program = program_payload(alloc, &accepted.program)?;
     let entry = entry_text(alloc, &accepted.lens, doc)?;
@@ -247,9 +247,9 @@ fn import_store(alloc: Global, accepted: &Accepted, doc: &Doc) -> Result<StoreTe
 }
 
 // The payload of the entry that makes a document, and the lines that are written then.
-fn entry_text(alloc: Global, lens: &Typed, doc: &Doc) -> Result<EntryText, AllocError>
-    requires typed { has (left_type (form_tree lens.now)) (doc_tree doc.now) ≡ true }
-    ensures { IfOk result (λ e. IsEntryText (form_tree lens.now) (doc_tree doc.now) e.payload e.lines.items) }
+fn entry_text(alloc: Global, lens: &Typed, doc: Doc) -> Result<EntryText, AllocError>
+    requires typed { has (left_type (form_tree lens.now)) (doc_tree doc) ≡ true }
+    ensures { IfOk result (λ e. IsEntryText (form_tree lens.now) (doc_tree doc) e.payload e.lines.items) }
 {
     let mut session = first_session(alloc, lens)?;
     let text = text_of_step(alloc, lens, &mut session, doc);
@@ -262,20 +262,20 @@ fn text_of_step<L: EditLens>(
     alloc: Global,
     lens: &Typed,
     session: &mut Session<L>,
-    doc: &Doc,
+    doc: Doc,
 ) -> Result<EntryText, AllocError>
     requires of_form { IsLensOf (L.left_type session.old.lens) (L.right_type session.old.lens)
         (L.start session.old.lens) (L.holds session.old.lens) (L.carried session.old.lens)
         (form_tree lens.now) }
     requires first { triple_tree session.old.triple ≡ triple_at_first (form_tree lens.now) }
-    requires typed { has (left_type (form_tree lens.now)) (doc_tree doc.now) ≡ true }
-    ensures { IfOk result (λ e. IsEntryText (form_tree lens.now) (doc_tree doc.now) e.payload e.lines.items) }
+    requires typed { has (left_type (form_tree lens.now)) (doc_tree doc) ≡ true }
+    ensures { IfOk result (λ e. IsEntryText (form_tree lens.now) (doc_tree doc) e.payload e.lines.items) }
 {
     types_are_low(lens);
     let entry = document_entry(alloc, lens, doc)?;
     let word = step_applied(session, &entry)?;
-    let lines = lines_after(alloc, lens, session, &word)?;
     let payload = change_payload(alloc, &Change::One(entry))?;
+    let lines = lines_after(alloc, lens, session, word)?;
     Ok(EntryText { payload, lines })
 }
 
@@ -287,12 +287,12 @@ fn types_are_low(lens: &Typed)
     let (_left, _right) = (lens.left(), lens.right());
 }
 
-// The entry of the left side whose word makes a document from the initial one.
-fn document_entry(alloc: Global, lens: &Typed, doc: &Doc) -> Result<Entry, AllocError>
-    requires typed { has (left_type (form_tree lens.now)) (doc_tree doc.now) ≡ true }
-    ensures { IfOk result (λ e. MakesDocument (form_tree lens.now) (doc_tree doc.now) (entry_tree e)) }
+// The entry of the left side whose word makes a document from the initial one. The document is dropped.
+fn document_entry(alloc: Global, lens: &Typed, doc: Doc) -> Result<Entry, AllocError>
+    requires typed { has (left_type (form_tree lens.now)) (doc_tree doc) ≡ true }
+    ensures { IfOk result (λ e. MakesDocument (form_tree lens.now) (doc_tree doc) (entry_tree e)) }
 {
-    let word = construct(alloc, lens.left(), doc)?;
+    let word = construct(alloc, lens.left(), &doc)?;
     Ok(Entry {
         side: Side::Left,
         word,
@@ -317,21 +317,22 @@ fn step_applied<L: EditLens>(session: &mut Session<L>, entry: &Entry) -> Result<
     }
 }
 
-// The line `ok 1 right WORD`, and the state lines of a session.
+// The line `ok 1 right WORD`, and the state lines of a session. The word is dropped in between.
 fn lines_after<L: EditLens>(
     alloc: Global,
     lens: &Typed,
     session: &Session<L>,
-    word: &Word,
+    word: Word,
 ) -> Result<Vec<u8>, AllocError>
     requires of_form { IsLensOf (L.left_type session.now.lens) (L.right_type session.now.lens)
         (L.start session.now.lens) (L.holds session.now.lens) (L.carried session.now.lens)
         (form_tree lens.now) }
-    requires counts { counts_fit (word_tree word.now) ≡ true }
+    requires counts { counts_fit (word_tree word) ≡ true }
     ensures { IfOk result (λ lines. lines.items
-        ≡ ok_line 1 Right (word_tree word.now) ++ state_lines (form_tree lens.now) (triple_tree session.now.triple)) }
+        ≡ ok_line 1 Right (word_tree word) ++ state_lines (form_tree lens.now) (triple_tree session.now.triple)) }
 {
-    let answer = ok_line(alloc, 1, Side::Right, word)?;
+    let answer = ok_line(alloc, 1, Side::Right, &word)?;
+    drop(word);
     let state = state_lines(alloc, lens, session)?;
     let mut lines = answer.into_vec();
     lines.extend_from_slice(&state)?;

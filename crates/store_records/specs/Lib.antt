@@ -1,4 +1,5 @@
 pub mod RecordJson
 pub mod RecordOutcomes
+pub mod SnapshotsTaken
 pub mod StoredComplements
 pub mod StoredLens

@@ -7,8 +7,10 @@ ghost use Rattle.edit_journal.specs.EntryJson.{change_of_tree, tree_of_text};
 ghost use Rattle.store_records.specs.RecordJson.{single_entry, any_change, change_in};
 
 use crate::text::read_tree;
+use crate::tokens::change_by_tokens;
 use edit_journal::{EntryFault, read_change_tree};
 use edit_module::Change;
+use json::Scratch;
 use serde_json::Value;
 use std::alloc::{AllocError, Global};
 use texts::Bytes;
@@ -22,7 +24,18 @@ pub fn read_change(alloc: Global, payload: &Bytes) -> Result<Option<Change>, All
     ensures { IfOk result (λ change. option_map change_tree change
         ≡ option_and_then change_in (tree_of_text payload.now)) }
 {
-    match read_tree(alloc, payload.as_slice())? {
+    let mut scratch = Scratch::new(alloc);
+    match change_by_tokens(alloc, payload.as_slice(), &mut scratch) {
+        Some(change) => Ok(Some(change)),
+        None => change_by_tree(alloc, payload.as_slice()),
+    }
+}
+
+fn change_by_tree(alloc: Global, payload: &[u8]) -> Result<Option<Change>, AllocError>
+    ensures { IfOk result (λ change. option_map change_tree change
+        ≡ option_and_then change_in (tree_of_text payload.now)) }
+{
+    match read_tree(alloc, payload)? {
         Some(tree) => change_in(alloc, &tree),
         None => Ok(None),
     }

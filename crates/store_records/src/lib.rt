@@ -6,6 +6,9 @@
 //! the lens of the first payload with the version that it says, and [`read_change`] the change of one. What all
 //! payloads of a store stand for is in store_session.
 //!
+//! Payloads are read from their tokens, without a tree ([`change_by_tokens`], [`snapshot_by_tokens`]). One that is out of
+//! the ordinary is read as a tree, which decides.
+//!
 //! The trees of records, and what a tree is as a record, are in specs/RecordJson.antt; the complement that a tree is is
 //! in specs/StoredComplements.antt. The page docs/FORMATS.md has each record with an example.
 #![tactic(auto)]
@@ -17,6 +20,7 @@ pub mod payloads;
 pub mod record_fault;
 pub mod record_laws;
 pub mod text;
+pub mod tokens;
 
 pub use crate::change::{change_in, read_change};
 pub use crate::opening::{StoredLens, lens_of_text, stored_lens};
@@ -26,3 +30,4 @@ pub use crate::payloads::{
 };
 pub use crate::record_fault::RecordFault;
 pub use crate::text::{payload_of, read_tree};
+pub use crate::tokens::{change_by_tokens, reader_of, snapshot_by_tokens};

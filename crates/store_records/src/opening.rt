@@ -12,6 +12,8 @@ ghost use Rattle.store_records.specs.StoredLens.{accepted, form_of_text, with_fo
 use crate::parts::opening_in;
 use crate::record_fault::RecordFault;
 use crate::text::read_tree;
+use crate::tokens::opening_by_tokens;
+use json::Scratch;
 use lens_io::Payloads;
 use lens_syntax::{Program, ProgramFault, read_unbounded};
 use lens_types::{TypeFault, Typed, check};
@@ -52,6 +54,18 @@ fn lens_of_payload(alloc: Global, payload: &[u8]) -> Result<StoredLens, RecordFa
         (λ lens. lens_and_version payload.now ≡ Some (form_tree lens.typed, lens.version))
         (IsBadFirst (lens_and_version payload.now)) }
 {
+    let mut scratch = Scratch::new(alloc);
+    match opening_by_tokens(payload, &mut scratch) {
+        Some((text, version)) => lens_with_version(alloc, text, version),
+        None => lens_by_tree(alloc, payload),
+    }
+}
+
+fn lens_by_tree(alloc: Global, payload: &[u8]) -> Result<StoredLens, RecordFault>
+    ensures { MatchResult result
+        (λ lens. lens_and_version payload.now ≡ Some (form_tree lens.typed, lens.version))
+        (IsBadFirst (lens_and_version payload.now)) }
+{
     match read_tree(alloc, payload)? {
         Some(tree) => lens_of_tree(alloc, &tree),
         None => Err(RecordFault::BadRecord { number: FIRST }),
@@ -63,9 +77,18 @@ fn lens_of_tree(alloc: Global, tree: &Value) -> Result<StoredLens, RecordFault>
         (λ lens. option_and_then with_form (opening_of (view tree.now)) ≡ Some (form_tree lens.typed, lens.version))
         (IsBadFirst (option_and_then with_form (opening_of (view tree.now)))) }
 {
-    let Some((text, version)) = opening_in(tree) else {
-        return Err(RecordFault::BadRecord { number: FIRST });
-    };
+    match opening_in(tree) {
+        Some((text, version)) => lens_with_version(alloc, text, version),
+        None => Err(RecordFault::BadRecord { number: FIRST }),
+    }
+}
+
+// The lens of this text, in a store of this version.
+fn lens_with_version(alloc: Global, text: &str, version: u64) -> Result<StoredLens, RecordFault>
+    ensures { MatchResult result
+        (λ lens. with_form (text.now, version) ≡ Some (form_tree lens.typed, lens.version))
+        (IsBadFirst (with_form (text.now, version))) }
+{
     match lens_of_text(alloc, text.as_bytes())? {
         Some(typed) => Ok(StoredLens { typed, version }),
         None => Err(RecordFault::BadRecord { number: FIRST }),

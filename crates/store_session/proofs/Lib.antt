@@ -7,5 +7,6 @@ pub mod LastTriple
 pub mod NoLineEnd
 pub mod Openings
 pub mod PartsStand
+pub mod RecordsTaken
 pub mod SnapshotParts
 pub mod StatesInStep

@@ -21,9 +21,11 @@ ghost use Rattle.store_session.specs.StoredStates.{answer, answer_item, change_t
 ghost use Rattle.store_session.specs.SessionStates.{session_state};
 
 use answer_text::{fault_line, group_line, group_refused_line, no_apply_line, ok_line};
-use edit_journal::{EntryFault, Line, read_entry};
+use change_tokens::read_line;
+use edit_journal::{EntryFault, Line};
 use edit_module::{Change, Entry};
 use edit_session::{GroupFault, Session, StepFault};
+use json::Scratch;
 use lens_flat::Flat;
 use std::alloc::{AllocError, Global};
 use store_records::change_payload;
@@ -31,11 +33,13 @@ use store_run::StoredAnswer;
 use texts::Bytes;
 
 // Answers the item with this number, which steps the session if it is a change that is accepted. The line is read once.
+// The scratch may hold anything.
 pub(crate) fn answer_item(
     alloc: Global,
     session: &mut Session<Flat>,
     number: u64,
     line: &Line,
+    scratch: &mut Scratch,
 ) -> Result<StoredAnswer, AllocError>
     ensures answer { IfOk result (λ a.
         answer (session_state session.old) number line.now ≡ Some (session_state session.new, a)) }
@@ -43,7 +47,7 @@ pub(crate) fn answer_item(
         IsStep (session_state session.old) number line.now (session_state session.new, a)) }
     ensures is_answer { IfOk result IsAnswer }
 {
-    match read_entry(alloc, line) {
+    match read_line(alloc, line, scratch) {
         Ok(Change::One(entry)) => answer_entry(alloc, session, number, entry),
         Ok(group) => answer_group(alloc, session, number, &group),
         Err(EntryFault::NoMemory) => Err(AllocError),

@@ -63,7 +63,7 @@ impl StoredSession for StoreSession {
         number: u64,
         line: &Line,
     ) -> Result<StoredAnswer, AllocError> {
-        answer_item(alloc, &mut self.session, number, line)
+        answer_item(alloc, &mut self.session, number, line, &mut self.scratch)
     }
 
     fn state_lines(&self, alloc: Global) -> Result<Bytes, AllocError> {

@@ -13,6 +13,7 @@ ghost use Rattle.store_session.specs.SessionStates.{session_state};
 
 use crate::session::StoreSession;
 use crate::{OpenedRecords, reopen};
+use json::Scratch;
 use lens_flat::Flat;
 use lens_io::Payloads;
 use std::alloc::{AllocError, Global};
@@ -65,6 +66,7 @@ fn with_version(
         Ok(version) => Ok(Opened {
             session: StoreSession {
                 session: opened.session,
+                scratch: Scratch::new(alloc),
             },
             version,
             count: opened.count,

@@ -12,19 +12,21 @@ ghost use Rattle.store_records.specs.RecordJson.{record_of, record_in, version_r
 ghost use Rattle.store_records.specs.declared.record_fault.RecordFault;
 ghost use Rattle.store_records.specs.StoredLens.{stored_lens};
 ghost use Rattle.store_session.specs.ReopenOutcomes.{IsReopenFault, Reaches};
-ghost use Rattle.store_session.specs.Stands.{after_record, at_start, is_too_new, stands};
+ghost use Rattle.store_session.specs.Stands.{after_record, after_triple, at_start, is_too_new, stands};
 ghost use Rattle.store_session.specs.Standings.{standing};
 
 use crate::snapshot_reading::{is_in_step, read_triple};
 use edit_module::Change;
-use edit_session::{GroupFault, Session};
+use edit_session::{GroupFault, Session, Triple};
+use json::Scratch;
 use lens_core::EditLens;
 use lens_io::Payloads;
 use lens_types::Typed;
 use serde_json::Value;
 use std::alloc::Global;
 use store_records::{
-    RecordFault, StoredLens, VERSION, change_in, is_version_record, read_tree, snapshot_in,
+    RecordFault, StoredLens, VERSION, change_by_tokens, change_in, is_version_record, read_tree,
+    snapshot_by_tokens, snapshot_in,
 };
 use texts::Bytes;
 
@@ -182,14 +184,77 @@ fn take_records<L: EditLens>(
     ensures lens { opened.new.session.lens ≡ opened.old.session.lens }
     ensures count { IfOk result (λ _. opened.new.count ≤ to) }
 {
+    // Room for reading payloads, which is kept from one to the next.
+    let mut scratch = Scratch::new(alloc);
     for at in from..to {
-        take_record(alloc, typed, at as u64 + 1, records[at].as_slice(), opened)?;
+        take_record(
+            alloc,
+            typed,
+            at as u64 + 1,
+            records[at].as_slice(),
+            &mut scratch,
+            opened,
+        )?;
     }
     Ok(())
 }
 
 // Goes on by the record with this number.
 fn take_record<L: EditLens>(
+    alloc: Global,
+    typed: &Typed,
+    number: u64,
+    payload: &[u8],
+    scratch: &mut Scratch,
+    opened: &mut OpenedRecords<L>,
+) -> Result<(), RecordFault>
+    requires means { IsLensOf (L.left_type opened.old.session.lens) (L.right_type opened.old.session.lens)
+        (L.start opened.old.session.lens) (L.holds opened.old.session.lens) (L.carried opened.old.session.lens)
+        (form_tree typed.now) }
+    requires count { opened.old.count < number }
+    ensures stands { Reaches result
+        (after_record number (standing (form_tree typed.now)
+        (triple_tree opened.old.session.triple) opened.old.count opened.old.version)
+        (record_in payload.now))
+        (standing (form_tree typed.now) (triple_tree opened.new.session.triple) opened.new.count opened.new.version) }
+    ensures lens { opened.new.session.lens ≡ opened.old.session.lens }
+    ensures count { opened.new.count ≤ opened.old.count + 1 }
+{
+    match change_by_tokens(alloc, payload, scratch) {
+        Some(change) => take_change(number, &change, opened),
+        None => take_other(alloc, typed, number, payload, scratch, opened),
+    }
+}
+
+// Goes on by the record of this payload, which may be one that is no change.
+fn take_other<L: EditLens>(
+    alloc: Global,
+    typed: &Typed,
+    number: u64,
+    payload: &[u8],
+    scratch: &mut Scratch,
+    opened: &mut OpenedRecords<L>,
+) -> Result<(), RecordFault>
+    requires means { IsLensOf (L.left_type opened.old.session.lens) (L.right_type opened.old.session.lens)
+        (L.start opened.old.session.lens) (L.holds opened.old.session.lens) (L.carried opened.old.session.lens)
+        (form_tree typed.now) }
+    requires count { opened.old.count < number }
+    ensures stands { Reaches result
+        (after_record number (standing (form_tree typed.now)
+        (triple_tree opened.old.session.triple) opened.old.count opened.old.version)
+        (record_in payload.now))
+        (standing (form_tree typed.now) (triple_tree opened.new.session.triple) opened.new.count opened.new.version) }
+    ensures lens { opened.new.session.lens ≡ opened.old.session.lens }
+    ensures count { opened.new.count ≤ opened.old.count + 1 }
+{
+    match snapshot_by_tokens(alloc, typed, payload, scratch) {
+        Some(triple) => take_triple(alloc, typed, number, triple, opened),
+        None => take_by_tree(alloc, typed, number, payload, opened),
+    }
+}
+
+// Goes on by the record of this payload, whose tree decides.
+fn take_by_tree<L: EditLens>(
     alloc: Global,
     typed: &Typed,
     number: u64,
@@ -304,7 +369,7 @@ fn take_version<L: EditLens>(number: u64, opened: &mut OpenedRecords<L>) -> Resu
     Ok(())
 }
 
-// Puts the triple of a snapshot in the place of the session's, if it is consistent.
+// Takes the triple of a snapshot, whose parts have these trees.
 fn take_snapshot<L: EditLens>(
     alloc: Global,
     typed: &Typed,
@@ -328,6 +393,28 @@ fn take_snapshot<L: EditLens>(
     let Some(triple) = read_triple(alloc, typed, comp, left, right)? else {
         return Err(RecordFault::BadRecord { number });
     };
+    take_triple(alloc, typed, number, triple, opened)
+}
+
+// Puts a triple of the lens's types in the place of the session's, if it is consistent.
+fn take_triple<L: EditLens>(
+    alloc: Global,
+    typed: &Typed,
+    number: u64,
+    triple: Triple,
+    opened: &mut OpenedRecords<L>,
+) -> Result<(), RecordFault>
+    requires means { IsLensOf (L.left_type opened.old.session.lens) (L.right_type opened.old.session.lens)
+        (L.start opened.old.session.lens) (L.holds opened.old.session.lens) (L.carried opened.old.session.lens)
+        (form_tree typed.now) }
+    ensures stands { Reaches result
+        (after_triple number (standing (form_tree typed.now)
+        (triple_tree opened.old.session.triple) opened.old.count opened.old.version)
+        (Some (triple_tree triple)))
+        (standing (form_tree typed.now) (triple_tree opened.new.session.triple) opened.new.count opened.new.version) }
+    ensures lens { opened.new.session.lens ≡ opened.old.session.lens }
+    ensures count { opened.new.count ≡ opened.old.count }
+{
     if !is_in_step(alloc, typed, &triple)? {
         return Err(RecordFault::NotConsistent { number });
     }

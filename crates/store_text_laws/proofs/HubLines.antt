@@ -17,7 +17,7 @@ use Rattle.hub_records.specs.HubChanges.{one, as_hub_change, hub_change_if_json,
 use Rattle.hub_session.specs.HubAnswers.{stored_hub_answer, hub_answer_item, edit_answered}
 use Rattle.hub_session.specs.HubStates.{stored_hub}
 use Rattle.script_run.specs.LineRuns as scripted
-use Rattle.script_run.specs.declared.line_answers.Answer.{Answer}
+use Rattle.script_run.specs.Answers.{Answer}
 use Rattle.store_run.specs.StoreRuns.{run_in_store}
 use Rattle.store_run.specs.declared.session.StoredAnswer.{StoredAnswer}
 use Rattle.store_text_laws.specs.HubsAlike.{is_group_tree, is_group, HasNoGroup, edit_payload, stored_as, HaveSameRun}

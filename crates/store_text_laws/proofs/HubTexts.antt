@@ -23,7 +23,7 @@ use Rattle.lens_io.specs.declared.source.Source as OfSource
 use Rattle.script_input.specs.Lines.{journal, program_part}
 use Rattle.script_run.specs.LineRuns as scripted
 use Rattle.script_run.specs.Report.{report, report_with, with_state}
-use Rattle.script_run.specs.declared.line_answers.Answer.{Answer}
+use Rattle.script_run.specs.Answers.{Answer}
 use Rattle.store_run.specs.Devices.{Devices}
 use Rattle.store_run.specs.ApplyCall.{ContinuesCall}
 use Rattle.store_run.specs.StoreRuns.{any_line_refused, kept_of, last_stored, run_in_store, text_of}

@@ -10,7 +10,7 @@ use Rattle.hub_records.specs.HubChanges.{one}
 use Rattle.hub_run.specs.Runs.{HubItem, HubState}
 use Rattle.hub_session.specs.HubAnswers.{hub_change_text}
 use Rattle.script_run.specs.LineRuns as lines
-use Rattle.script_run.specs.declared.line_answers.Answer.{Answer}
+use Rattle.script_run.specs.Answers.{Answer}
 use Rattle.store_run.specs.StoreRuns.{any_line_refused, last_stored, text_of}
 use Rattle.store_run.specs.declared.session.StoredAnswer.{StoredAnswer}
 

@@ -7,10 +7,8 @@ use Rattle.kept_sessions.proofs.changes.payload_text.Goals as goal
 
 pub returns : goal.returns
 returns c =
-    let change = change_tree c.args.change.now in let low = c.types_are_low.ensures in
+    let change = change_tree c.args.accepted.now.change in let low = c.types_are_low.ensures in
     record {
-      change = change;
-      is = c.requires.is;
       is_text = c.into_vec.ensures ∙ c.in_ok-payload.ensures.text;
       reads_back = λ t after words step. ap tree_of_text c.into_vec.ensures
           ∙ c.in_ok-payload.ensures.reads_back (accepted_low (form_tree c.args.typed.now) t after change words low.left low.right step);

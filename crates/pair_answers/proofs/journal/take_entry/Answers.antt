@@ -7,4 +7,4 @@ pub returns-in-Ok-clause-has_line : goal.returns-in-Ok-clause-has_line
 returns-in-Ok-clause-has_line g c =
     let lens = c.args.session.now.lens in
     carried_fits (g.L.EditLens.left_type lens) (g.L.EditLens.right_type lens) (g.L.EditLens.carried lens)
-    (triple_tree c.args.session.now.triple) (entry_tree c.args.entry.now) (triple_tree c.step.new.self.triple, word_tree c.in-Ok.word) c.in-Ok.ensures.steps
+    (triple_tree c.args.session.now.triple) (entry_tree c.args.entry) (triple_tree c.step.new.self.triple, word_tree c.in-Ok.word) c.in-Ok.ensures.steps

@@ -16,8 +16,8 @@ pub returns-in-Ok-clause-ended : goal.returns-in-Ok-clause-ended
 returns-in-Ok-clause-ended g c = λ start front rest part program t head is first.
     let script = g.A.ScriptState in
     let after = c.answer_pieces.new in
-    let old = stage c.args.source.now c.args.sink.now c.args.input (script.state c.args.lines.now.state) in
-    let new = stage after.source after.sink after.input (script.state after.state.state) in
+    let old = stage c.args.source.now c.args.sink.now c.args.input (script.state c.args.state.now) in
+    let new = stage after.source after.sink after.input (script.state after.state) in
     let p = c.in-Ok.ensures.answers in
     run_ends script c.requires.in_step g.S.Source g.K.Sink start old new front rest part t head program is first c.give_report.new.sink p.more c.in-Ok.progress p.has_ended
     c.last_report.result c.give_report.result p.consumes c.last_report.ensures.report c.give_report.ensures.gives
@@ -26,8 +26,8 @@ pub returns-in-Err-clause-ended : goal.returns-in-Err-clause-ended
 returns-in-Err-clause-ended g c = λ start front rest part program t head is first.
     let script = g.A.ScriptState in
     let after = c.answer_pieces.new in
-    let old = stage c.args.source.now c.args.sink.now c.args.input (script.state c.args.lines.now.state) in
-    let new = stage after.source after.sink after.input (script.state after.state.state) in
+    let old = stage c.args.source.now c.args.sink.now c.args.input (script.state c.args.state.now) in
+    let new = stage after.source after.sink after.input (script.state after.state) in
     let p = c.in-Err.ensures.answers in
     subst (Ended script g.S.Source g.K.Sink (start, old.sink) (new.source, new.sink)) (sym c.status.ensures)
     (run_stops script c.requires.in_step g.S.Source g.K.Sink start old new front rest part t head program is first (length c.args.piece.now) c.requires.few c.in-Err.ensures.few p.more c.in-Err.stopped p.consumes p.at_most

@@ -1,4 +1,5 @@
 use Rattle.std.proofs.Common.{◌≡◌, ◌∷◌, [], ◌++◌, refl, sym, ap, subst, ◌∙◌, append_assoc, append-nil, length, arith}
+use Rattle.std.specs.Bool.{then_some}
 use Rattle.std.specs.Prelude.{MatchResult}
 use Rattle.script_input.proofs.EndedLines.{taken_line, none_taken}
 use Rattle.script_input.proofs.Outcomes.{as_error}
@@ -8,8 +9,8 @@ use Rattle.script_run.proofs.stream.answer_ended.Goals as goal
 
 pub lines-init : goal.lines-init
 lines-init g c =
-    let answer = g.A.LineAnswers.answer in
-    let state = g.A.LineAnswers.state in
+    let answer = g.A.ScriptState.answer in
+    let state = g.A.ScriptState.state in
     let held = g.K.Sink.held in
     let old = with_progress (state c.args.state.now) c.args.progress.now in
     record {
@@ -21,67 +22,41 @@ lines-init g c =
       empty_takes = omega arith;
     }
 
-pub returns-in_err-answer_line-in-Ok-Some-clause-answers : goal.returns-in_err-answer_line-in-Ok-Some-clause-answers
-returns-in_err-answer_line-in-Ok-Some-clause-answers g c =
-    let answer = g.A.LineAnswers.answer in
-    let state = g.A.LineAnswers.state in
+pub returns-in_err-answer_line-in-Ok-true-clause-answers : goal.returns-in_err-answer_line-in-Ok-true-clause-answers
+returns-in_err-answer_line-in-Ok-true-clause-answers g c =
+    let answer = g.A.ScriptState.answer in
+    let state = g.A.ScriptState.state in
     let held = g.K.Sink.held in
     let old = with_progress (state c.args.state.now) c.args.progress.now in
     let mid = with_progress (state c.lines.state) c.lines.progress in
     let h = c.lines.invariant.goes in
-    let new = c.take_line.new.self in
-    let line = c.in-Ok-Some.line in
-    let taken = taken_line line new.lines c.lines.input.lines (ap (λ l. (l, new.lines)) (sym c.in-Ok-Some.field-0-is) ∙ c.in-Ok-Some.ensures.taken) in
+    let new = c.take_line_into.new.self in
+    let line = c.take_line_into.new.line in
+    let taken = taken_line line new.lines c.lines.input.lines (ap (λ b. (then_some b line, new.lines)) (sym c.in-Ok-true.field-0-test) ∙ c.in-Ok-true.ensures.taken) in
     let after = c.answer_line.new in
     let ended = c.args.input.now.lines.ended in
     let rest = new.lines.ended in
-    let stopped = c.in_err-answer_line-in-Ok-Some.field-0.0 in
-    let wide = stops_before answer mid (line ∷ []) rest (held c.lines.sink) (held after.sink) stopped c.in_err-answer_line-in-Ok-Some.ensures.answers in
+    let stopped = c.in_err-answer_line-in-Ok-true.field-0.0 in
+    let wide = stops_before answer mid (line ∷ []) rest (held c.lines.sink) (held after.sink) stopped c.in_err-answer_line-in-Ok-true.ensures.answers in
     as_error c.from_residual.result (λ r. MatchResult r
     (λ _. AnswersLines answer old ended (held c.args.sink.now) (held after.sink) (state after.state, after.progress))
     (StopsLines answer old ended (held c.args.sink.now) (held after.sink))) stopped
     (stops_on answer old mid h.0 (held c.args.sink.now) (held c.lines.sink) h.2 ended (line ∷ rest) (held after.sink) stopped (h.1 ∙ ap (λ l. h.0 ++ l) taken.0) wide)
     c.from_residual.ensures.1
 
-pub lines-preserved-in_ok-answer_line-in-Ok-Some : goal.lines-preserved-in_ok-answer_line-in-Ok-Some
-lines-preserved-in_ok-answer_line-in-Ok-Some g c =
-    let answer = g.A.LineAnswers.answer in
-    let state = g.A.LineAnswers.state in
-    let held = g.K.Sink.held in
-    let old = with_progress (state c.args.state.now) c.args.progress.now in
-    let mid = with_progress (state c.lines.state) c.lines.progress in
-    let h = c.lines.invariant.goes in
-    let new = c.take_line.new.self in
-    let line = c.in-Ok-Some.line in
-    let taken = taken_line line new.lines c.lines.input.lines (ap (λ l. (l, new.lines)) (sym c.in-Ok-Some.field-0-is) ∙ c.in-Ok-Some.ensures.taken) in
-    let after = c.answer_line.new in
-    let e = c.in_ok-answer_line-in-Ok-Some.ensures in
-    record {
-      goes = (
-        h.0 ++ line ∷ [],
-        h.1 ∙ ap (λ l. h.0 ++ l) taken.0 ∙ sym (append_assoc h.0 (line ∷ []) new.lines.ended),
-        answers_on answer old mid h.0 (held c.args.sink.now) (held c.lines.sink) h.2 (state after.state, after.progress) (line ∷ []) (held after.sink) e.answers,
-      );
-      begun = taken.1 ∙ c.lines.invariant.begun;
-      count = c.in-Ok-Some.ensures.count ∙ c.lines.invariant.count;
-      number = omega (arith, e.number, c.lines.invariant.number, ap length taken.0);
-      sink_faults = omega (arith, c.lines.invariant.sink_faults, e.sink_faults.0);
-      empty_takes = omega (arith, c.lines.invariant.empty_takes, e.sink_faults.1);
-    }
-
 pub lines-preserved : goal.lines-preserved
 lines-preserved g c =
-    let answer = g.A.LineAnswers.answer in
-    let state = g.A.LineAnswers.state in
+    let answer = g.A.ScriptState.answer in
+    let state = g.A.ScriptState.state in
     let held = g.K.Sink.held in
     let old = with_progress (state c.args.state.now) c.args.progress.now in
     let mid = with_progress (state c.lines.state) c.lines.progress in
     let h = c.lines.invariant.goes in
-    let new = c.take_line.new.self in
-    let line = c.in-Ok-Some.line in
-    let taken = taken_line line new.lines c.lines.input.lines (ap (λ l. (l, new.lines)) (sym c.in-Ok-Some.field-0-is) ∙ c.in-Ok-Some.ensures.taken) in
+    let new = c.take_line_into.new.self in
+    let line = c.take_line_into.new.line in
+    let taken = taken_line line new.lines c.lines.input.lines (ap (λ b. (then_some b line, new.lines)) (sym c.in-Ok-true.field-0-test) ∙ c.in-Ok-true.ensures.taken) in
     let after = c.answer_line.new in
-    let e = c.in_ok-answer_line-in-Ok-Some.ensures in
+    let e = c.in_ok-answer_line-in-Ok-true.ensures in
     record {
       goes = (
         h.0 ++ line ∷ [],
@@ -89,23 +64,23 @@ lines-preserved g c =
         answers_on answer old mid h.0 (held c.args.sink.now) (held c.lines.sink) h.2 (state after.state, after.progress) (line ∷ []) (held after.sink) e.answers,
       );
       begun = taken.1 ∙ c.lines.invariant.begun;
-      count = c.in-Ok-Some.ensures.count ∙ c.lines.invariant.count;
+      count = c.in-Ok-true.ensures.count ∙ c.lines.invariant.count;
       number = omega (arith, e.number, c.lines.invariant.number, ap length taken.0);
       sink_faults = omega (arith, c.lines.invariant.sink_faults, e.sink_faults.0);
       empty_takes = omega (arith, c.lines.invariant.empty_takes, e.sink_faults.1);
     }
 
-pub returns-in-Ok-None-clause-answers : goal.returns-in-Ok-None-clause-answers
-returns-in-Ok-None-clause-answers g c =
-    let answer = g.A.LineAnswers.answer in
-    let state = g.A.LineAnswers.state in
+pub returns-in-Ok-false-clause-answers : goal.returns-in-Ok-false-clause-answers
+returns-in-Ok-false-clause-answers g c =
+    let answer = g.A.ScriptState.answer in
+    let state = g.A.ScriptState.state in
     let held = g.K.Sink.held in
     let old = with_progress (state c.args.state.now) c.args.progress.now in
     let mid = with_progress (state c.lines.state) c.lines.progress in
     let h = c.lines.invariant.goes in
     let ended = c.args.input.now.lines.ended in
-    let new = c.take_line.new.self in
-    let none = none_taken new.lines c.lines.input.lines (ap (λ l. (l, new.lines)) (sym c.in-Ok-None.field-0-is) ∙ c.in-Ok-None.ensures.taken) in
+    let new = c.take_line_into.new.self in
+    let none = none_taken new.lines c.lines.input.lines (ap (λ b. (then_some b c.take_line_into.new.line, new.lines)) (sym c.in-Ok-false.field-0-test) ∙ c.in-Ok-false.ensures.taken) in
     let all : ended ≡ h.0 = h.1 ∙ ap (λ l. h.0 ++ l) none.0 ∙ append-nil h.0 in
     let after = c.give_answers.new in
     subst (λ e. MatchResult c.give_answers.result
@@ -115,8 +90,8 @@ returns-in-Ok-None-clause-answers g c =
 
 pub returns-in-Err-clause-answers : goal.returns-in-Err-clause-answers
 returns-in-Err-clause-answers g c =
-    let answer = g.A.LineAnswers.answer in
-    let state = g.A.LineAnswers.state in
+    let answer = g.A.ScriptState.answer in
+    let state = g.A.ScriptState.state in
     let held = g.K.Sink.held in
     let old = with_progress (state c.args.state.now) c.args.progress.now in
     let mid = with_progress (state c.lines.state) c.lines.progress in

@@ -6,8 +6,8 @@ use Rattle.script_run.proofs.stream.answer_ended.Given as goal
 -- the run went over the lines that were taken
 abbrev pub invariant-lines : goal.invariant-lines
 invariant-lines g l =
-    let answer = g.A.LineAnswers.answer in
-    let state = g.A.LineAnswers.state in
+    let answer = g.A.ScriptState.answer in
+    let state = g.A.ScriptState.state in
     let sink = g.K.Sink in
     record {
       goes : (lines : List Line) × (l.fn.input.lines.ended ≡ lines ++ l.input.lines.ended)

@@ -5,8 +5,8 @@ use Rattle.script_run.proofs.stream.answer_piece.Goals as goal
 
 pub returns-in-Err-clause-one_piece : goal.returns-in-Err-clause-one_piece
 returns-in-Err-clause-one_piece g c =
-    let answer = g.A.LineAnswers.answer in
-    let t = g.A.LineAnswers.state c.args.state.now in
+    let answer = g.A.ScriptState.answer in
+    let t = g.A.ScriptState.state c.args.state.now in
     let k = c.args.sink.now in
     let p = c.args.progress.now in
     let old = stage c.args.source.now k c.args.input.now t in

@@ -6,8 +6,8 @@ use Rattle.script_run.proofs.stream.answer_pieces.Goals as goal
 
 pub pieces-init : goal.pieces-init
 pieces-init g c =
-    let answer = g.A.LineAnswers.answer in
-    let state = g.A.LineAnswers.state in
+    let answer = g.A.ScriptState.answer in
+    let state = g.A.ScriptState.state in
     let old = stage c.args.source.now c.args.sink.now c.args.input.now (state c.args.state.now) in
     let after = c.answer_ended.new in
     let p = c.new-progress.result in
@@ -26,8 +26,8 @@ pieces-init g c =
 
 pub returns-in_err-answer_ended-clause-answers : goal.returns-in_err-answer_ended-clause-answers
 returns-in_err-answer_ended-clause-answers g c =
-    let answer = g.A.LineAnswers.answer in
-    let state = g.A.LineAnswers.state in
+    let answer = g.A.ScriptState.answer in
+    let state = g.A.ScriptState.state in
     let old = stage c.args.source.now c.args.sink.now c.args.input.now (state c.args.state.now) in
     let after = c.answer_ended.new in
     let new = stage c.args.source.now after.sink after.input (state after.state) in
@@ -39,8 +39,8 @@ returns-in_err-answer_ended-clause-answers g c =
 
 pub returns-in_err-answer_piece-clause-answers : goal.returns-in_err-answer_piece-clause-answers
 returns-in_err-answer_piece-clause-answers g c =
-    let answer = g.A.LineAnswers.answer in
-    let state = g.A.LineAnswers.state in
+    let answer = g.A.ScriptState.answer in
+    let state = g.A.ScriptState.state in
     let old = stage c.args.source.now c.args.sink.now c.args.input.now (state c.args.state.now) in
     let now = stage c.pieces.source c.pieces.sink c.pieces.input (state c.pieces.state) in
     let after = c.answer_piece.new in
@@ -52,8 +52,8 @@ returns-in_err-answer_piece-clause-answers g c =
 
 pub pieces-preserved : goal.pieces-preserved
 pieces-preserved g c =
-    let answer = g.A.LineAnswers.answer in
-    let state = g.A.LineAnswers.state in
+    let answer = g.A.ScriptState.answer in
+    let state = g.A.ScriptState.state in
     let old = stage c.args.source.now c.args.sink.now c.args.input.now (state c.args.state.now) in
     let now = stage c.pieces.source c.pieces.sink c.pieces.input (state c.pieces.state) in
     let after = c.answer_piece.new in
@@ -73,8 +73,8 @@ pieces-preserved g c =
 
 pub returns-clause-answers : goal.returns-clause-answers
 returns-clause-answers g c =
-    let answer = g.A.LineAnswers.answer in
-    let state = g.A.LineAnswers.state in
+    let answer = g.A.ScriptState.answer in
+    let state = g.A.ScriptState.state in
     let old = stage c.args.source.now c.args.sink.now c.args.input.now (state c.args.state.now) in
     let now = stage c.pieces.source c.pieces.sink c.pieces.input (state c.pieces.state) in
     let after = c.answer_piece.new in

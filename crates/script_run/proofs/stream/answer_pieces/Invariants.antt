@@ -8,8 +8,8 @@ use Rattle.script_run.proofs.stream.answer_pieces.Given as goal
 -- the run has come on over the bytes that were taken
 abbrev pub invariant-pieces : goal.invariant-pieces
 invariant-pieces g l =
-    let answer = g.A.LineAnswers.answer in
-    let state = g.A.LineAnswers.state in
+    let answer = g.A.ScriptState.answer in
+    let state = g.A.ScriptState.state in
     let source = g.S.Source in
     let sink = g.K.Sink in
     record {

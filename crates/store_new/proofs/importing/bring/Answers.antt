@@ -17,5 +17,5 @@ pub returns-clause-room : goal.returns-clause-room
 returns-clause-room g c =
     let store = c.in-Ok.store in
     let accepted = c.args.accepted.now in
-    λ e. no_room_for_plan (g.D.Disk.room c.args.disk.now) (IsImportStore (program_tree accepted.program) (form_tree accepted.lens) (doc_tree c.args.doc.now)) store.payloads store.lines.items c.in-Ok.ensures
+    λ e. no_room_for_plan (g.D.Disk.room c.args.disk.now) (IsImportStore (program_tree accepted.program) (form_tree accepted.lens) (doc_tree c.args.doc)) store.payloads store.lines.items c.in-Ok.ensures
     (c.make_store.ensures.room e)

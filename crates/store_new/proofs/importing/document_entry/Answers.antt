@@ -10,12 +10,12 @@ use Rattle.store_new.proofs.FirstSteps.{document_made}
 use Rattle.store_new.proofs.importing.document_entry.Goals as goal
 
 pub construct-requires : goal.construct-requires
-construct-requires c = subst (λ ty. has ty (doc_tree c.args.doc.now) ≡ true) (sym c.left.ensures.left) c.requires.typed
+construct-requires c = subst (λ ty. has ty (doc_tree c.args.doc) ≡ true) (sym c.left.ensures.left) c.requires.typed
 
 pub returns : goal.returns
 returns c =
     let ty = ty_tree c.left.result.now in
     let word = word_tree c.in_ok-word.word in
-    let doc = doc_tree c.args.doc.now in
+    let doc = doc_tree c.args.doc in
     let acts = c.in_ok-word.ensures.makes c.left.ensures.well_formed in
     document_made (form_tree c.args.lens.now) doc ty word c.left.ensures.left c.in_ok-word.ensures.exact acts (acting_fits word ty (initial ty) doc acts)

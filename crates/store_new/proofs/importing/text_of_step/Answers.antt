@@ -14,7 +14,7 @@ step_applied-requires g c =
     let lens = g.L.EditLens in
     let old = c.args.session.now in
     record {
-      applies = entry_applies (lens.left_type old.lens) (lens.right_type old.lens) (form_tree c.args.lens.now) (triple_tree old.triple) (doc_tree c.args.doc.now) (entry_tree c.in_ok-entry.entry)
+      applies = entry_applies (lens.left_type old.lens) (lens.right_type old.lens) (form_tree c.args.lens.now) (triple_tree old.triple) (doc_tree c.args.doc) (entry_tree c.in_ok-entry.entry)
           c.requires.of_form.left_is c.requires.first c.in_ok-entry.ensures;
     }
 
@@ -31,7 +31,7 @@ lines_after-requires-clause-counts g c =
     (triple_tree c.step_applied.new.session.triple, word_tree c.in_ok-word.word) c.in_ok-word.ensures.steps
 
 pub change_payload-requires : goal.change_payload-requires
-change_payload-requires g c = record { counts_fit = entry_counts (form_tree c.args.lens.now) (doc_tree c.args.doc.now) (entry_tree c.in_ok-entry.entry) c.in_ok-entry.ensures }
+change_payload-requires g c = record { counts_fit = entry_counts (form_tree c.args.lens.now) (doc_tree c.args.doc) (entry_tree c.in_ok-entry.entry) c.in_ok-entry.ensures }
 
 pub returns : goal.returns
 returns g c =
@@ -39,7 +39,7 @@ returns g c =
     let old = c.args.session.now in
     let after = triple_tree c.step_applied.new.session.triple in
     let in_step = subst (λ k. IsInStep (lens.holds k) after) c.in_ok-word.ensures.lens c.in_ok-word.ensures.consistent in
-    entry_made (lens.left_type old.lens) (lens.right_type old.lens) (lens.start old.lens) (lens.holds old.lens) (lens.carried old.lens) (form_tree c.args.lens.now) (doc_tree c.args.doc.now)
+    entry_made (lens.left_type old.lens) (lens.right_type old.lens) (lens.start old.lens) (lens.holds old.lens) (lens.carried old.lens) (form_tree c.args.lens.now) (doc_tree c.args.doc)
     (entry_tree c.in_ok-entry.entry) (triple_tree old.triple) after (word_tree c.in_ok-word.word) c.in_ok-payload.payload c.in_ok-lines.lines.items c.requires.of_form
     c.types_are_low.ensures.left c.types_are_low.ensures.right c.in_ok-entry.ensures c.requires.first c.in_ok-word.ensures.steps in_step
     c.in_ok-payload.ensures.text c.in_ok-payload.ensures.reads_back c.in_ok-payload.ensures.numbers c.in_ok-lines.ensures

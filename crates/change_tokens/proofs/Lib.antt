@@ -1,0 +1,3 @@
+pub mod ReadingTokens
+pub mod ReadingWords
+pub mod ReadingChanges

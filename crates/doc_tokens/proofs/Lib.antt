@@ -1,0 +1,2 @@
+pub mod RisingMembers
+pub mod ReadingDocs

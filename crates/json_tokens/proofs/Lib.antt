@@ -1,0 +1,4 @@
+mod NumberTexts
+pub mod Conversions
+pub mod TreesAt
+pub mod ReadParts
