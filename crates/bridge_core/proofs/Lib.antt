@@ -1,0 +1,5 @@
+pub mod BridgeLists
+pub mod BridgeSpans
+pub mod CarriedActs
+pub mod OnlyGone
+pub mod TextLaws

@@ -1,0 +1,93 @@
+-- The bridge after a word has acted on the far document.
+-- Read it from the end: `bridge` goes through a word, and `bridge_primitive` has a line for each primitive that acts.
+use Rattle.std.specs.Prelude.{ℕ, Bool, List, [], ◌&&◌, if◌then◌else◌, Option, None, Some, Result, Ok, Err}
+use Rattle.std.specs.Str.{is_utf8}
+use Rattle.texts.specs.Characters.{character_count}
+use Rattle.text_bridges.specs.declared.run.Run.{Run}
+use Rattle.text_bridges.specs.Runs.{far_spliced, shortest}
+use Rattle.doc_values.specs.Documents.{DocTree, text, rec, alt, DocTrees}
+use Rattle.doc_values.specs.Types.{TyTree, ty_text, ty_rec, ty_alt}
+use Rattle.doc_values.specs.Typing.{lookup_field, lookup_type}
+use Rattle.edit_module.specs.declared.fault.Cause.{Cause}
+use Rattle.edit_module.specs.Words.{PrimitiveTree, set, add, splice, at, stay, switch, modify, shape, WordTree}
+use Rattle.edit_module.specs.Words.{no_primitives, more_primitives}
+use Rattle.edit_module.specs.Action.{act_primitive, doc_at}
+use Rattle.bridge_core.specs.Bridges.{BridgeTree, same, other, lost, cells, parts, arm, away, BridgeTrees, no_bridges}
+use Rattle.bridge_core.specs.Bridges.{bridge_at, put_bridge_at, same_each}
+
+-- what is done with what was looked up; the bridge stays where nothing was found
+abbrev pub for_found : {A : Type 0} → BridgeTree → Option A → (A → BridgeTree) → BridgeTree
+for_found b None go = b
+for_found b (Some x) go = go x
+
+-- ---- values
+
+-- a value is set
+abbrev pub bridge_set : TyTree → BridgeTree
+bridge_set (ty_text z) = lost
+bridge_set _ = other
+
+-- k characters of the far text from place i on are replaced by those of x; only of texts that are UTF-8 the runs are
+-- known, as all texts of the code are
+abbrev pub with_splice : Bool → List Run → ℕ → ℕ → List ℕ → BridgeTree
+with_splice known rs i k x = if known then cells (shortest (far_spliced rs i k (character_count x))) else lost
+
+abbrev pub bridge_splice : List ℕ → BridgeTree → ℕ → ℕ → List ℕ → BridgeTree
+bridge_splice v same i k x = with_splice (is_utf8 v && is_utf8 x) [] i k x
+bridge_splice v (cells rs) i k x = with_splice (is_utf8 x) rs i k x
+bridge_splice v _ i k x = lost
+
+-- ---- records
+
+-- the bridges of the fields of a far record
+abbrev pub parts_of : BridgeTree → DocTrees → BridgeTrees
+parts_of same ds = same_each ds
+parts_of (parts bs) ds = bs
+parts_of _ ds = no_bridges
+
+-- a field at a place, whose bridge is led on by `inner`
+abbrev pub bridge_field : BridgeTrees → ℕ → (BridgeTree → BridgeTree) → BridgeTree
+bridge_field bs i inner = parts (put_bridge_at bs i (inner (bridge_at bs i)))
+
+-- ---- alternatives
+
+-- the bridge of the contents, where both documents have the same tag
+abbrev pub arm_of : BridgeTree → BridgeTree
+arm_of (arm a b) = b
+arm_of _ = same
+
+-- the content of the far tag was acted on, and `b` is the bridge of both contents
+abbrev pub bridge_stay : BridgeTree → List ℕ → BridgeTree → BridgeTree
+bridge_stay (away a c) tag b = away a c
+bridge_stay _ tag b = arm tag b
+
+-- the far document went from the tag a to the tag c
+abbrev pub bridge_switch : BridgeTree → List ℕ → List ℕ → BridgeTree
+bridge_switch (away old new) a c = away old c
+bridge_switch _ a c = away a c
+
+-- ---- all primitives and words
+
+-- the bridge of a word's rest, where its first primitive acts
+abbrev pub led_on : BridgeTree → Result DocTree Cause → (DocTree → BridgeTree) → BridgeTree
+led_on b (Ok u) rest = rest u
+led_on b (Err cause) rest = b
+
+abbrev mutual
+  -- the bridge when the far document v was acted on by a word, where b is the bridge before
+  pub bridge : TyTree → WordTree → DocTree → BridgeTree → BridgeTree
+  bridge t no_primitives v b = b
+  bridge t (more_primitives p w) v b = led_on b (act_primitive t p v) (λ u. bridge t w u (bridge_primitive t p v b))
+
+  pub bridge_primitive : TyTree → PrimitiveTree → DocTree → BridgeTree → BridgeTree
+  bridge_primitive t (set a) v b = bridge_set t
+  bridge_primitive t (add n) v b = other
+  bridge_primitive t (splice i k x) (text v) b = bridge_splice v b i k x
+  bridge_primitive (ty_rec fs) (at f w) (rec ds) b =
+      for_found b (lookup_field fs f) (λ s. bridge_field (parts_of b ds) s.0 (λ c. bridge s.1 w (doc_at ds s.0) c))
+  bridge_primitive (ty_alt fs) (stay a w) (alt tag v) b =
+      for_found b (lookup_type fs tag) (λ t. bridge_stay b tag (bridge t w v (arm_of b)))
+  bridge_primitive t (switch a c w) v b = bridge_switch b a c
+  bridge_primitive t (modify p w) v b = lost
+  bridge_primitive t (shape e) v b = lost
+  bridge_primitive _ _ _ b = b

@@ -1,0 +1,43 @@
+-- Bridges as plain trees: how a document, the far one, differs from another, the near one.
+-- In order: `BridgeTree`, and lists of bridges.
+use Rattle.std.specs.Prelude.{ℕ, List, [], ◌∷◌, slice_set, slice_index_or}
+use Rattle.text_bridges.specs.declared.run.Run.{Run}
+use Rattle.doc_values.specs.Documents.{DocTrees, no_docs, more_docs}
+
+-- both are the same; both have any value of a type without parts; nothing of the near one is followed; the runs of two
+-- texts; a bridge for each field of a record; the same tag, with the bridge of its contents; two tags, of which the far
+-- one was switched to
+mutual
+  pub data BridgeTree : Type 0 where
+    same : BridgeTree
+    other : BridgeTree
+    lost : BridgeTree
+    cells : List Run → BridgeTree
+    parts : BridgeTrees → BridgeTree
+    arm : List ℕ → BridgeTree → BridgeTree
+    away : List ℕ → List ℕ → BridgeTree
+
+  pub data BridgeTrees : Type 0 where
+    no_bridges : BridgeTrees
+    more_bridges : BridgeTree → BridgeTrees → BridgeTrees
+
+-- a list of bridges as trees, and back
+abbrev pub bridges_of : List BridgeTree → BridgeTrees
+bridges_of [] = no_bridges
+bridges_of (b ∷ bs) = more_bridges b (bridges_of bs)
+
+abbrev pub bridge_list : BridgeTrees → List BridgeTree
+bridge_list no_bridges = []
+bridge_list (more_bridges b bs) = b ∷ bridge_list bs
+
+-- the bridge at a place, and the bridges with another one there
+abbrev pub bridge_at : BridgeTrees → ℕ → BridgeTree
+bridge_at bs i = slice_index_or (bridge_list bs) i same
+
+abbrev pub put_bridge_at : BridgeTrees → ℕ → BridgeTree → BridgeTrees
+put_bridge_at bs i b = bridges_of (slice_set (bridge_list bs) i b)
+
+-- for each document the bridge to itself
+abbrev pub same_each : DocTrees → BridgeTrees
+same_each no_docs = no_bridges
+same_each (more_docs d ds) = more_bridges same (same_each ds)

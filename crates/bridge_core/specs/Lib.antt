@@ -1,0 +1,5 @@
+pub mod Bridges
+pub mod Bridged
+pub mod Carried
+pub mod Spans
+pub mod Laws
