@@ -1,0 +1,15 @@
+pub mod Facts
+pub mod Sorting
+pub mod SortedMembers
+pub mod Telling
+pub mod IntTexts
+pub mod Contents
+pub mod WriteReads
+pub mod ReadWrites
+pub mod ReadAlike
+pub mod WrittenTypes
+pub mod WrittenNumbers
+pub mod ComesBack
+pub mod FirstMisfit
+pub mod FieldOrders
+pub mod FormParts

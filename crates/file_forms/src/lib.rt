@@ -1,0 +1,15 @@
+//! How a user's file has the documents of a type.
+#![tactic(auto)]
+
+mod fit;
+mod form;
+pub mod laws;
+mod literal;
+mod misfit;
+mod sign;
+mod sort;
+
+pub use crate::form::FileForm;
+pub use crate::literal::Literal;
+pub use crate::misfit::{FormFault, FormMisfit, FormStep};
+pub use crate::sort::Sort;

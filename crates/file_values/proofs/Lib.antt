@@ -1,0 +1,3 @@
+pub mod IntRanges
+pub mod WriteLoops
+pub mod WrittenTrees
