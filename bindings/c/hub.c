@@ -3,44 +3,10 @@
    Before the state lines are written, they are made a second time, of each part alone, and compared. If the word `resume` is given, the hub is
    closed after each item, and resumed from its own texts. Its items are then numbered from 1 on again, so the number of each answer line is
    written anew. */
-#include "editlens.h"
-
-#include <stdio.h>
-#include <stdlib.h>
-#include <string.h>
-
-struct text {
-    uint8_t *bytes;
-    size_t len;
-};
+#include "scripts.h"
 
 static struct text taken(void *hub) {
-    struct text text;
-    text.len = editlens_hub_text(hub, NULL, 0).len;
-    text.bytes = malloc(text.len + 1);
-    if (text.bytes == NULL || editlens_hub_text(hub, text.bytes, text.len).status != EDITLENS_DONE) {
-        exit(99);
-    }
-    text.bytes[text.len] = 0;
-    return text;
-}
-
-static void give(void *hub) {
-    struct text text = taken(hub);
-    fwrite(text.bytes, 1, text.len, stdout);
-    free(text.bytes);
-}
-
-/* Writes an answer line with another number in place of its own. */
-static void give_numbered(void *hub, unsigned long long number) {
-    struct text text = taken(hub);
-    char *space = strchr((char *)text.bytes, ' ');
-    char *rest = space == NULL ? NULL : strchr(space + 1, ' ');
-    if (rest == NULL) {
-        exit(88);
-    }
-    printf("%.*s %llu%s", (int)(space - (char *)text.bytes), text.bytes, number, rest);
-    free(text.bytes);
+    return text_of(hub, editlens_hub_text);
 }
 
 /* Adds the text of a part and a line feed. Whether there is such a part. */
@@ -48,15 +14,7 @@ static int add_part(void *hub, struct text *state, uint32_t part, uint64_t view)
     if (editlens_hub_show(hub, part, view).status != EDITLENS_DONE) {
         return 0;
     }
-    struct text text = taken(hub);
-    state->bytes = realloc(state->bytes, state->len + text.len + 1);
-    if (state->bytes == NULL) {
-        exit(87);
-    }
-    memcpy(state->bytes + state->len, text.bytes, text.len);
-    state->bytes[state->len + text.len] = '\n';
-    state->len += text.len + 1;
-    free(text.bytes);
+    add_line(state, taken(hub));
     return 1;
 }
 
@@ -112,50 +70,28 @@ static void compare_parts(void *hub) {
     free(state.bytes);
 }
 
-/* Where the line `---` ends the program part; the end of the script if there is none. */
-static size_t end_of_programs(const uint8_t *script, size_t len, size_t *journal) {
-    for (size_t begin = 0; begin < len;) {
-        const uint8_t *feed = memchr(script + begin, '\n', len - begin);
-        size_t end = feed == NULL ? len : (size_t)(feed - script);
-        size_t size = end - begin - (end > begin && script[end - 1] == '\r');
-        if (size == 3 && memcmp(script + begin, "---", 3) == 0) {
-            *journal = feed == NULL ? len : end + 1;
-            return begin;
-        }
-        begin = feed == NULL ? len : end + 1;
-    }
-    *journal = len;
-    return len;
-}
-
 int main(int words, char **word) {
     int resumes = words > 1 && strcmp(word[1], "resume") == 0, refused = 0;
-    size_t len = 0, room = 1 << 16, got, journal;
-    uint8_t *script = malloc(room);
-    while (script != NULL && (got = fread(script + len, 1, room - len, stdin)) > 0) {
-        len += got;
-        if (len == room) {
-            script = realloc(script, room *= 2);
-        }
-    }
+    struct text script = read_script();
+    size_t journal;
     void *hub = calloc(1, editlens_hub_size());
-    if (script == NULL || hub == NULL) {
+    if (hub == NULL) {
         return 94;
     }
-    size_t programs = end_of_programs(script, len, &journal);
-    editlens_hub_open(hub, script, programs);
+    size_t programs = end_of_program(script.bytes, script.len, &journal);
+    editlens_hub_open(hub, script.bytes, programs);
     uint32_t status = editlens_hub_status(hub).status;
     if (status != EDITLENS_DONE) {
-        give(hub);
-        if (editlens_hub_step(hub, script, 0).status != status || editlens_hub_show(hub, EDITLENS_HUB_STATE, 0).status != status) {
+        give_text(taken(hub));
+        if (editlens_hub_step(hub, script.bytes, 0).status != status || editlens_hub_show(hub, EDITLENS_HUB_STATE, 0).status != status) {
             return 93;
         }
     } else {
         unsigned long long number = 0;
-        for (size_t begin = journal; begin < len;) {
-            const uint8_t *feed = memchr(script + begin, '\n', len - begin);
-            size_t end = feed == NULL ? len : (size_t)(feed - script);
-            struct editlens_answer answer = editlens_hub_step(hub, script + begin, end - begin);
+        for (size_t begin = journal; begin < script.len;) {
+            const uint8_t *feed = memchr(script.bytes + begin, '\n', script.len - begin);
+            size_t end = feed == NULL ? script.len : (size_t)(feed - script.bytes);
+            struct editlens_answer answer = editlens_hub_step(hub, script.bytes + begin, end - begin);
             number += answer.status != EDITLENS_BLANK;
             refused |= answer.status == EDITLENS_REFUSED;
             if (answer.status > EDITLENS_REFUSED || (answer.status == EDITLENS_REFUSED) != (answer.cause != EDITLENS_NO_CAUSE)) {
@@ -165,12 +101,12 @@ int main(int words, char **word) {
                 return 85;
             }
             if (resumes && answer.status != EDITLENS_BLANK) {
-                give_numbered(hub, number);
-                resume(hub, script, programs);
+                give_with_number(taken(hub), number);
+                resume(hub, script.bytes, programs);
             } else {
-                give(hub);
+                give_text(taken(hub));
             }
-            begin = feed == NULL ? len : end + 1;
+            begin = feed == NULL ? script.len : end + 1;
         }
         if (editlens_hub_step(hub, (const uint8_t *)"{}\n{}", 5).status != EDITLENS_LINE_FEED) {
             return 91;
@@ -182,11 +118,11 @@ int main(int words, char **word) {
             if (editlens_hub_show(hub, EDITLENS_HUB_STATE, 0).status != EDITLENS_DONE) {
                 return 90;
             }
-            again == 0 ? compare_parts(hub) : give(hub);
+            again == 0 ? compare_parts(hub) : give_text(taken(hub));
         }
     }
     editlens_hub_close(hub);
     free(hub);
-    free(script);
+    free(script.bytes);
     return status == EDITLENS_DONE ? refused : status == EDITLENS_PROGRAM_REFUSED ? 3 : 89;
 }

@@ -3,9 +3,12 @@
 
 const addon = require(process.env.EDITLENS_HUB_ADDON || './editlens_hub.node');
 
-const STATUS = {0: 'done', 1: 'blank', 2: 'refused', 3: 'program-refused', 4: 'state-refused', 5: 'no-hub', 6: 'no-memory', 8: 'line-feed', 9: 'unknown-part',
-  10: 'full'};
+// The numbers of editlens.h. bindings/header compares them.
+const STATUS = ['done', 'blank', 'refused', 'program-refused', 'state-refused', 'no-hub', 'no-memory', 'small-buffer', 'line-feed', 'unknown-part', 'full',
+  'records-refused', 'no-change', 'not-open'];
 const PARTS = {state: 0, document: 1, view: 2, complement: 3};
+// The statuses of a line that was taken, or refused.
+const ANSWERED = ['done', 'blank', 'refused'];
 
 /** A call that did not do what it was asked. `status` is a name, and `cause`, `view` and `at` are the numbers of editlens.h. */
 class EditlensHubError extends Error {
@@ -28,7 +31,7 @@ class Hub {
     if (state !== undefined) given.push(state.map((it) => it + '\n').join(''));
     this.#held = addon.open(...given.map((it) => Buffer.from(it)));
     const answer = addon.status(this.#held);
-    if (answer.status !== 0) {
+    if (STATUS[answer.status] !== 'done') {
       this.close();
       throw new EditlensHubError(answer);
     }
@@ -37,15 +40,17 @@ class Hub {
   /** Takes a line of a hub's journal, without its line feed. Returns whether it was accepted, the answer line, and the numbers of a refusal. */
   step(line) {
     const answer = addon.step(this.#held, Buffer.from(line));
-    if (answer.status > 2) throw new EditlensHubError(answer);
-    return {accepted: answer.status === 0, line: answer.text.toString(), cause: answer.cause, at: answer.at};
+    const status = STATUS[answer.status];
+    if (!ANSWERED.includes(status)) throw new EditlensHubError(answer);
+    return {accepted: status === 'done', line: answer.text.toString(), cause: answer.cause, at: answer.at};
   }
 
   /** A part of the state: `state` or `document`, or of the view with a number, from 0, `view` or `complement`. Undefined if there is no such view. */
   show(part, view = 0) {
     const answer = addon.show(this.#held, PARTS[part] ?? 99, view);
-    if (answer.status === 2) return undefined;
-    if (answer.status !== 0) throw new EditlensHubError(answer);
+    const status = STATUS[answer.status];
+    if (status === 'refused') return undefined;
+    if (status !== 'done') throw new EditlensHubError(answer);
     return answer.text.toString();
   }
 

@@ -3,9 +3,13 @@
 
 const addon = require(process.env.EDITLENS_ADDON || './editlens.node');
 
+// The numbers of editlens.h, and the kinds of opening of editlens.c, in their order. bindings/header compares them.
 const STATUS = ['done', 'blank', 'refused', 'program-refused', 'state-refused', 'no-session', 'no-memory', 'small-buffer', 'line-feed', 'unknown-part', 'full',
   'records-refused', 'no-change', 'not-open'];
 const PARTS = {state: 0, left: 1, complement: 2, right: 3, leftType: 4, rightType: 5, snapshot: 6, change: 7, undoLeft: 8, undoRight: 9};
+const OPENINGS = ['open', 'resume', 'import-left', 'import-right', 'reopen'];
+// The statuses of a line that was taken, or refused.
+const ANSWERED = ['done', 'blank', 'refused'];
 
 /** A call that did not do what it was asked. `status` is a name, and `cause`, `part` and `at` are the numbers of editlens.h. */
 class EditlensError extends Error {
@@ -17,12 +21,12 @@ class EditlensError extends Error {
   }
 }
 
-/** How a session is opened: the number of the addon's call, and its texts. */
+/** How a session is opened: the kind, and its texts. */
 function opening(program, state) {
-  if (state === undefined) return [0, program];
-  if (state.records) return [4, state.records.map((it) => it + '\n').join('')];
-  if (state.complement !== undefined) return [1, program, state.left, state.complement, state.right];
-  return state.left !== undefined ? [2, program, state.left] : [3, program, state.right];
+  if (state === undefined) return ['open', program];
+  if (state.records) return ['reopen', state.records.map((it) => it + '\n').join('')];
+  if (state.complement !== undefined) return ['resume', program, state.left, state.complement, state.right];
+  return state.left !== undefined ? ['import-left', program, state.left] : ['import-right', program, state.right];
 }
 
 /**
@@ -34,10 +38,10 @@ class Session {
 
   constructor(program, state) {
     const [kind, ...texts] = opening(program, state);
-    this.#held = addon.open(kind, ...texts.map((it) => Buffer.from(it)));
+    this.#held = addon.open(OPENINGS.indexOf(kind), ...texts.map((it) => Buffer.from(it)));
     const answer = addon.status(this.#held);
     this.opening = answer.text.toString();
-    if (answer.status !== 0) {
+    if (STATUS[answer.status] !== 'done') {
       this.close();
       throw new EditlensError(answer);
     }
@@ -51,8 +55,9 @@ class Session {
   /** Takes a line of a journal, without its line feed. Returns whether it was accepted, the answer line, and the numbers of a refusal. */
   step(line) {
     const answer = addon.step(this.#held, Buffer.from(line));
-    if (answer.status > 2) throw new EditlensError(answer);
-    return {accepted: answer.status === 0, line: answer.text.toString(), cause: answer.cause, part: answer.part, at: answer.at};
+    const status = STATUS[answer.status];
+    if (!ANSWERED.includes(status)) throw new EditlensError(answer);
+    return {accepted: status === 'done', line: answer.text.toString(), cause: answer.cause, part: answer.part, at: answer.at};
   }
 
   /**
@@ -61,7 +66,7 @@ class Session {
    */
   show(part) {
     const answer = addon.show(this.#held, PARTS[part] ?? 99);
-    if (answer.status !== 0) throw new EditlensError(answer);
+    if (STATUS[answer.status] !== 'done') throw new EditlensError(answer);
     return answer.text.toString();
   }
 

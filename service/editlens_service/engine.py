@@ -59,6 +59,13 @@ def _is_lost(why: library.Unopened) -> bool:
     return why.status == library.NO_SESSION
 
 
+def _fault_of(why: library.Unopened) -> Exception:
+    """What is raised for programs or texts of which nothing is opened."""
+    if why.status == library.PROGRAM_REFUSED:
+        return ProgramRefused(why.line.decode().rstrip("\n").removeprefix("program refused: "))
+    return (DocumentRefused if why.status == library.STATE_REFUSED else MemoryError)(str(why))
+
+
 class PairState:
     """The session of a pair: two documents in step."""
 
@@ -75,11 +82,7 @@ class PairState:
         try:
             return cls(library.Kept(program.encode(), **{side: text.encode() for side, text in documents.items()}))
         except library.Unopened as why:
-            if why.status == library.PROGRAM_REFUSED:
-                raise ProgramRefused(why.line.decode().rstrip("\n").removeprefix("program refused: ")) from None
-            if why.status == library.STATE_REFUSED:
-                raise DocumentRefused(str(why)) from None
-            raise MemoryError(str(why)) from None
+            raise _fault_of(why) from None
 
     @classmethod
     def reopen(cls, base: str, payloads: Sequence[str] = ()) -> "PairState":
@@ -179,11 +182,7 @@ class HubState:
         try:
             return cls(hubs.Hub([it.encode() for it in programs], given), programs)
         except library.Unopened as why:
-            if why.status == library.PROGRAM_REFUSED:
-                raise ProgramRefused(why.line.decode().rstrip("\n").removeprefix("program refused: ")) from None
-            if why.status == library.STATE_REFUSED:
-                raise DocumentRefused(str(why)) from None
-            raise MemoryError(str(why)) from None
+            raise _fault_of(why) from None
 
     @classmethod
     def reopen(cls, base: str, payloads: Sequence[str] = ()) -> "HubState":

@@ -97,8 +97,8 @@ def test_the_lexer_knows_every_token():
 def test_the_picture_of_the_program_is_drawn_anew():
     if find_spec("pygments") is None:
         raise Skipped("python3-pygments is not installed")
-    drawn = subprocess.run([os.path.join(TOP, "docs", "highlight"), "--print"], stdout=subprocess.PIPE, text=True, check=True)
-    assert read_page("docs/program.svg") == drawn.stdout, "run docs/highlight"
+    drawn = subprocess.run([os.path.join(TOP, "dev", "highlight"), "--print"], stdout=subprocess.PIPE, text=True, check=True)
+    assert read_page("docs/program.svg") == drawn.stdout, "run dev/highlight"
 
 
 def test_sentences_are_short():

@@ -15,7 +15,7 @@ from editlens.program import NoProgram, find_program
 from editlens.replacement import NotDone
 from editlens.upkeep import back, backup, compact, history, restore, state_at
 
-from . import PATIENCE, Skipped
+from . import PATIENCE, Skipped, raised
 
 VIEWS = ["main {a ~ x: id int, left b: int}\n", "main {a ~ p: id int, b ~ q: id int}"]
 MORE = "main {b ~ z: id int, left a: int}"
@@ -30,14 +30,6 @@ def made(folder):
     except NoProgram:
         raise Skipped("there is no program edithub") from None
     return HubStore.init(folder, VIEWS)
-
-
-def raised(kind, call):
-    try:
-        call()
-    except kind as why:
-        return why
-    raise AssertionError(f"{kind.__name__} did not come")
 
 
 def changed(store):

@@ -15,9 +15,9 @@ from editlens.natural import Number, read_file, read_file_at, read_form, to_docu
 from editlens.program import TOP
 from editlens.types import write_type
 
+from . import raised
 from .natural_chance import NUMBERS, OPAQUE, TEXTS, WHOLES, some_natural
 from .scripts import called, files
-from .stores import raised
 
 EXAMPLES = (
     ("compose", "compose", "values"),

@@ -30,20 +30,12 @@ from editlens.load import load_words
 from editlens.parts import program_of
 from editlens.program import TOP
 
-from . import PATIENCE
+from . import PATIENCE, raised
 from .locks import given_back_later, need_lock
 
 PROGRAM = "main {a ~ b: id int, left hours: int}\n"
 ADD = [{"at": ["a", [{"add": 1}]]}]
 ORDERS = os.path.join(TOP, "examples", "link")
-
-
-def raised(kind, call):
-    try:
-        call()
-    except kind as why:
-        return why
-    raise AssertionError(f"{kind.__name__} did not come")
 
 
 @contextlib.contextmanager

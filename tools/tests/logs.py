@@ -12,7 +12,7 @@ from editlens.replacement import NotDone
 from editlens.store import NAME, Store, StoreRefused
 from editlens.upkeep import back, backup, history
 
-from .stores import raised
+from . import raised
 
 PROGRAM = "main {a ~ b: id int}"
 FIRST = b'{"program":"main {a ~ b: id int}","version":2}'

@@ -21,11 +21,10 @@ from editlens.store import NAME, Store, StoreRefused
 from editlens.store_file import UnsafeFile, need_one_name
 from editlens.upkeep import back, compact, drop_old, history
 
-from . import PATIENCE, Skipped
+from . import PATIENCE, Skipped, raised
 from .hub_stores import MORE, made
 from .locks import answer, content, need_state, program, refused_at_once, started
 from .scripts import called, files
-from .stores import raised
 from .upkeep import writing_calls
 
 PROGRAM = "main {count ~ number: id int, left note: text}\n"

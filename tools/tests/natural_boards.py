@@ -8,8 +8,8 @@ from editlens.private import PrivateLoss
 from editlens.trial import TrialEnded
 from editlens.types import read_type
 
+from . import raised
 from .patches import patched
-from .stores import raised
 
 LENS = """lens status = <todo ~ todo: {}, doing ~ doing: {since ~ since: id text}>;
 main {cards ~ bars: each tree {id_ ~ id_: id text, title ~ name: id text, status ~ status: status, right progress: int}}"""

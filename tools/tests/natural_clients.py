@@ -10,9 +10,9 @@ from editlens.natural import FormFault, NoCounterpart, NotWritable, read_file, w
 from editlens.private import PrivateLoss
 from editlens.types import read_type
 
+from . import raised
 from .natural_patches import some_operation
 from .patches import patched
-from .stores import raised
 
 LENS = """lens item = {t ~ t: id text, right p: text};
 main {k ~ k: keyed item, l ~ l: each item, r ~ r: tree item, x ~ x: <a ~ a: item, b ~ b: item>, left z: list text}"""

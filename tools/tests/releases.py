@@ -17,6 +17,7 @@ from editlens.program import TOP, NoProgram, find_program
 from editlens.version import version
 
 from . import Skipped
+from .packages import EXAMPLE, PLAIN, example
 
 sys.path.insert(0, os.path.join(TOP, "dev"))
 
@@ -28,15 +29,6 @@ from repository.package import Built  # noqa: E402
 from repository.release import release  # noqa: E402
 from repository.tools import OF_SERVICE, tools  # noqa: E402
 from repository.wheel import wheel  # noqa: E402
-
-EXAMPLE = os.path.join(TOP, "examples", "tasks")
-PLAIN = {"PATH": "/usr/bin:/bin"}
-
-
-def example(end):
-    """The script of an example, or what it writes."""
-    with open(f"{EXAMPLE}.{end}", "rb") as file:
-        return file.read()
 
 
 def built():

@@ -336,9 +336,9 @@ def test_the_examples_in_python():
 
 
 def test_the_picture_is_drawn_anew():
-    drawn = subprocess.run([os.path.join(TOP, "docs", "draw"), "--print"], capture_output=True, text=True, check=True)
+    drawn = subprocess.run([os.path.join(TOP, "dev", "draw"), "--print"], capture_output=True, text=True, check=True)
     with open(os.path.join(TOP, "docs", "lens.svg"), encoding="utf-8") as file:
-        assert file.read() == drawn.stdout, "run docs/draw"
+        assert file.read() == drawn.stdout, "run dev/draw"
 
 
 def test_the_tests_run_in_the_background():

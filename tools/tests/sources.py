@@ -170,14 +170,14 @@ def test_edits_are_counted_in_both_folders():
     with tempfile.TemporaryDirectory() as folder:
         with open(os.path.join(folder, "crates.txt"), "w", encoding="utf-8") as file:
             file.write("# Base: some.\nlow:\nmiddle: low\n\n# Top.\nhigh: low\n\n# Tests.\ntests: high\n")
-        for path in ("crates/low/must-fail/a", "crates/low/must-fail/b", "crates/high/must-fail/c", "plants/middle/d", "plants/low/e"):
+        for path in ("crates/low/must-fail/a", "crates/low/must-fail/b", "crates/high/must-fail/c", "mutants/middle/d", "mutants/low/e"):
             os.makedirs(os.path.dirname(os.path.join(folder, path)), exist_ok=True)
             open(os.path.join(folder, path + ".edit"), "w", encoding="utf-8").close()
         said_now = table_of(folder).splitlines()
-        assert said_now[0] == "There are 3 that the gate tries, and 2 in `plants/`:", said_now
+        assert said_now[0] == "There are 3 that the gate tries, and 2 in `mutants/`:", said_now
         assert said_now[-2:] == ["| Base | 2 | 2 |", "| Top | 1 | 0 |"], said_now
         each = list(by_crate(folder))
-        assert each[0] == "low: 2 in the gate, 1 in plants/" and len(each) == 3, each
+        assert each[0] == "low: 2 in the gate, 1 in mutants/" and len(each) == 3, each
 
 
 def test_levels_of_crates():

@@ -9,15 +9,9 @@ from editlens import program
 from editlens.answers import ProgramRefused, Refused
 from editlens.store import ImportRefused, Store, StoreRefused
 
+from . import raised
+
 PROGRAM = "main {a ~ b: id int, left hours: int}\n"
-
-
-def raised(kind, call):
-    try:
-        call()
-    except kind as why:
-        return why
-    raise AssertionError(f"{kind.__name__} did not come")
 
 
 def test_a_stored_session():

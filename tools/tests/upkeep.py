@@ -24,11 +24,10 @@ from editlens.store_file import UnsafeFile
 from editlens.types import read_type, write_type
 from editlens.upkeep import back, backup, compact, drop_old, history, restore, state_at
 
-from . import Skipped
+from . import Skipped, raised
 from .chance import some_edit, some_type
 from .logs import SET, bytes_of, changed, payloads_of, placed
 from .scripts import called, files
-from .stores import raised
 
 PROGRAM = "main {a ~ b: id int, left hours: int, right note: text}\n"
 ADD = '{"side":"right","edit":[{"at":["b",[{"add":1}]]}]}'

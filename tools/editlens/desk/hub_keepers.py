@@ -12,11 +12,10 @@ from typing import Any, Callable
 from ..answers import Refused, RunEnded
 from ..hub import Hub, HubAccepted
 from ..hub_store import HubStore, state_of_lines, stored_programs
-from ..json_text import read_json, write_json
 from ..lines import lines_of
 from ..parts import HUB, SEPARATOR, joined
 from ..program import find_program
-from ..session import DocumentsDiffer
+from .keepers import LineKeeper
 
 Words = dict[Any, list]
 Reader = Callable[[], list]
@@ -27,17 +26,15 @@ def words_of(answer: HubAccepted) -> Words:
     return {HUB: answer.hub, **dict(enumerate(answer.views))}
 
 
-class HubRunKeeper:
+class HubRunKeeper(LineKeeper):
     """A hub in one run of the program. The lines that were accepted are kept, since a run writes what its lenses remember only at its end."""
 
-    is_store = False
+    place = "at"
 
     def __init__(self, programs: list[str], path: str | None = None) -> None:
+        super().__init__()
         self.programs, self.path = programs, path or find_program()
         self.hub = Hub(programs, self.path)
-        self.lines: list[str] = []
-        self.undone: list[str] = []
-        self.first = 0
 
     @property
     def types(self) -> dict[Any, Any]:
@@ -48,11 +45,6 @@ class HubRunKeeper:
     def documents(self) -> dict[Any, Any]:
         """All documents."""
         return self.hub.documents
-
-    @property
-    def can_undo(self) -> bool:
-        """Whether an entry came since the session began."""
-        return len(self.lines) > self.first
 
     def begin(self, lines: list[str]) -> list[str]:
         """Takes the lines of a script, and returns why each of those that were refused was."""
@@ -69,33 +61,13 @@ class HubRunKeeper:
     def entry(self, at: Any, edit: Any) -> Words:
         """Sends an edit of a document, and returns the words of all."""
         answer = self.hub.edit(at, edit)
-        self.lines.append(write_json({"at": at, "edit": edit}))
-        self.undone = []
+        self._took(at, edit)
         return words_of(answer)
 
     def undo(self) -> tuple[Any, Any]:
         """Goes back to the state before the last entry, and returns its place and its edit. Another run takes the entries before it again."""
-        earlier = Hub(self.programs, self.path)
-        try:
-            for line in self.lines[:-1]:
-                if isinstance(earlier.line(line), Refused):
-                    raise DocumentsDiffer
-        except BaseException:
-            earlier.stop()
-            raise
-        self.hub.stop()
-        self.hub, last = earlier, self.lines.pop()
-        self.undone.append(last)
-        entry = read_json(last)
-        return entry["at"], entry["edit"]
-
-    def redo(self) -> tuple[Any, Any, Words]:
-        """Sends the entry again that was taken back last. Returns its place, its edit and the words of all documents."""
-        *undone, line = self.undone
-        entry = read_json(line)
-        words = self.entry(entry["at"], entry["edit"])
-        self.undone = undone
-        return entry["at"], entry["edit"], words
+        self.hub, last = self._without_last(self.hub, Hub(self.programs, self.path))
+        return last
 
     def reader(self) -> Reader:
         """A call that finds what the lens of each view remembers now. It may run beside later edits."""

@@ -28,17 +28,66 @@ from ..types import Ty
 Forms = dict[str, Any]
 
 
-class RunKeeper:
-    """A session in one run of the program. The lines that were accepted are kept: a run writes its complement only at its end, and has no undo."""
+class LineKeeper:
+    """The lines that a run has accepted, and those that were taken back. A run has no undo, so another one takes the lines before again.
+
+    `place` is the member of a line that says which document its edit is of.
+    """
 
     is_store = False
+    place: str
 
-    def __init__(self, program_text: str, path: str | None = None, forms: Forms | None = None) -> None:
-        self.program, self.forms = program_of(program_text), forms or {}
-        self.session = Session(self.program, path, forms=self.forms)
+    def __init__(self) -> None:
         self.lines: list[str] = []
         self.undone: list[str] = []
         self.first = 0
+
+    @property
+    def can_undo(self) -> bool:
+        """Whether an entry came since the session began."""
+        return len(self.lines) > self.first
+
+    def entry(self, at: Any, edit: Any) -> Any:
+        """Sends an edit of a document, and returns what came of it."""
+        raise NotImplementedError
+
+    def _took(self, at, edit):
+        self.lines.append(write_json({self.place: at, "edit": edit}))
+        self.undone = []
+
+    def _without_last(self, run, earlier):
+        """Ends a run, and returns the earlier one, which has taken all lines but the last, with the place and the edit of the last."""
+        try:
+            for line in self.lines[:-1]:
+                if isinstance(earlier.line(line), Refused):
+                    raise DocumentsDiffer
+        except BaseException:
+            earlier.stop()
+            raise
+        run.stop()
+        last = self.lines.pop()
+        self.undone.append(last)
+        entry = read_json(last)
+        return earlier, (entry[self.place], entry["edit"])
+
+    def redo(self) -> tuple[Any, Any, Any]:
+        """Sends the entry again that was taken back last. Returns its place, its edit and what `entry` returns."""
+        *undone, line = self.undone
+        entry = read_json(line)
+        answer = self.entry(entry[self.place], entry["edit"])
+        self.undone = undone
+        return entry[self.place], entry["edit"], answer
+
+
+class RunKeeper(LineKeeper):
+    """A session in one run of the program. The lines that were accepted are kept: a run writes its complement only at its end, and has no undo."""
+
+    place = "side"
+
+    def __init__(self, program_text: str, path: str | None = None, forms: Forms | None = None) -> None:
+        super().__init__()
+        self.program, self.forms = program_of(program_text), forms or {}
+        self.session = Session(self.program, path, forms=self.forms)
 
     @property
     def types(self) -> dict[str, Ty]:
@@ -67,38 +116,10 @@ class RunKeeper:
         self._took(side, done.word)
         return done
 
-    def _took(self, side, edit):
-        self.lines.append(write_json({"side": side, "edit": edit}))
-        self.undone = []
-
-    @property
-    def can_undo(self) -> bool:
-        """Whether an entry came since the session began."""
-        return len(self.lines) > self.first
-
     def undo(self) -> tuple[str, Any]:
         """Goes back to the state before the last entry, and returns its side and its edit. Another run takes the entries before it again."""
-        earlier = Session(self.program, self.session.path, forms=self.forms)
-        try:
-            for line in self.lines[:-1]:
-                if isinstance(earlier.line(line), Refused):
-                    raise DocumentsDiffer
-        except BaseException:
-            earlier.stop()
-            raise
-        self.session.stop()
-        self.session, last = earlier, self.lines.pop()
-        self.undone.append(last)
-        entry = read_json(last)
-        return entry["side"], entry["edit"]
-
-    def redo(self) -> tuple[str, Any, Accepted]:
-        """Sends the entry again that was taken back last. Returns its side, its edit and its answer."""
-        *undone, line = self.undone
-        entry = read_json(line)
-        answer = self.entry(entry["side"], entry["edit"])
-        self.undone = undone
-        return entry["side"], entry["edit"], answer
+        self.session, last = self._without_last(self.session, Session(self.program, self.session.path, forms=self.forms))
+        return last
 
     def begin(self, left: Any = None, right: Any = None) -> list[Disagreement]:
         """Builds documents that exist, and returns where they disagree. Raises DoesNotFit."""
