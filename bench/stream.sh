@@ -1,31 +1,36 @@
 #!/usr/bin/env bash
 # Measures a journal that comes through a pipe: bash bench/stream.sh [ENTRIES], ENTRIES being 5,000,000 where none is given.
-# It prints the most memory that a run of so many entries holds (wanted: under 20 MB), the lines a second beside those of a Rust
-# program that only parses each line with serde_json and writes its edit back (wanted: at least half of them), and the longest time
-# from a line that is written into an open pipe to its answer (wanted: at most 10 ms). It is run by hand. The Rust program is in
-# bench/floor/ and is built with cargo; without cargo its line is left out.
+# It prints the most memory that a run of so many entries holds (wanted: under 20 MB), the lines a second beside those of two Rust programs
+# that only parse each line with serde_json and write its edit back (wanted: as many as the first), and the longest time from a line that
+# is written into an open pipe to its answer (wanted: at most 10 ms). It is run by hand. The Rust programs are built with cargo. That in
+# bench/floor/ parses a line as a tree, and that in bench/floor_typed/ into types that borrow from it. One that cannot be built is left out.
 set -eu
 
 here=$(cd "$(dirname "${BASH_SOURCE[0]}")/.." && pwd)
-[ -x "$here/crates/editlens/out/editlens" ] || { echo "run ./build first" >&2; exit 1; }
+program=${EDITLENS:-$here/crates/editlens/out/editlens}
+[ -x "$program" ] || { echo "run ./build first" >&2; exit 1; }
 
-# serde_json comes from Debian's librust-serde-json-dev where that is installed, or else from cargo's registry.
-floor=
+# The crates come from Debian's librust-serde-json-dev and librust-serde-derive-dev where these are installed, or else from cargo's registry.
+floors=()
 debian=/usr/share/cargo/registry
 sources=()
 if [ -d "$debian" ]; then
     sources=(--offline --config 'source.crates-io.replace-with="debian"' --config "source.debian.directory=\"$debian\"")
 fi
 if command -v cargo >/dev/null; then
-    target=${TMPDIR:-/tmp}/editlens-floor
-    mkdir -p "$target" && cp -r "$here/bench/floor/." "$target"
-    (cd "$target" && cargo "${sources[@]}" build --quiet --release) && floor=$target/target/release/floor
+    for floor in floor floor_typed; do
+        target=${TMPDIR:-/tmp}/editlens-$floor
+        mkdir -p "$target" && cp -r "$here/bench/$floor/." "$target"
+        if (cd "$target" && cargo "${sources[@]}" build --quiet --release); then
+            floors+=("$target/target/release/$floor")
+        fi
+    done
 fi
 
-exec python3 - "$here/crates/editlens/out/editlens" "${1:-5000000}" "$floor" <<'PYTHON'
+exec python3 - "$program" "${1:-5000000}" "${floors[@]}" <<'PYTHON'
 import os, statistics, subprocess, sys, threading, time
 
-program, count, floor = sys.argv[1], int(sys.argv[2]), sys.argv[3]
+program, count, floors = sys.argv[1], int(sys.argv[2]), sys.argv[3:]
 HEAD = b'main {a ~ b: id int}\n---\n'
 AT_ONCE = 10000
 
@@ -85,10 +90,11 @@ entries = count // AT_ONCE * AT_ONCE
 taken, held, lines = measure([program, 'run'], HEAD, block)
 assert lines == entries + 3, lines
 print('%d entries, %d MB: %.1f s, %d lines a second, %.1f MB held' % (entries, len(block) * (count // AT_ONCE) / 1e6, taken, entries / taken, held / 1e6))
-if floor:
+for floor in floors:
     least, _, lines = measure([floor], b'', block)
     assert lines == entries, lines
-    print('serde_json alone: %.1f s, %d lines a second; ratio %.2f' % (least, entries / least, least / taken))
+    how = 'into types that borrow' if floor.endswith('typed') else 'as a tree'
+    print('serde_json alone, %s: %.1f s, %d lines a second; ratio %.2f' % (how, least, entries / least, least / taken))
 times = answer_times(1000)
 print('an answer: %.2f ms at most, %.2f ms in the middle' % (max(times) * 1e3, statistics.median(times) * 1e3))
 PYTHON

@@ -1,4 +1,4 @@
-"""The edits which must fail, counted: those of crates/*/must-fail, which the gate tries, and those of plants/, which dev/plant tries."""
+"""The edits which must fail, counted: those of crates/*/must-fail, which the gate tries, and those of mutants/, which dev/mutant tries."""
 
 import glob
 import os
@@ -20,27 +20,27 @@ def counted(folder, top=TOP):
 
 
 def both(top=TOP):
-    """The numbers of edits by crate: of those that the gate tries, and of those in plants/."""
-    return counted(os.path.join("crates", "*", "must-fail"), top), counted(os.path.join("plants", "*"), top)
+    """The numbers of edits by crate: of those that the gate tries, and of those in mutants/."""
+    return counted(os.path.join("crates", "*", "must-fail"), top), counted(os.path.join("mutants", "*"), top)
 
 
 def by_crate(top=TOP):
     """A line for each crate that has edits, those with the most first."""
-    gate, plants = both(top)
-    for crate in sorted({*gate, *plants}, key=lambda it: (-gate[it] - plants[it], it)):
-        yield f"{crate}: {gate[crate]} in the gate, {plants[crate]} in plants/"
+    gate, mutants = both(top)
+    for crate in sorted({*gate, *mutants}, key=lambda it: (-gate[it] - mutants[it], it)):
+        yield f"{crate}: {gate[crate]} in the gate, {mutants[crate]} in mutants/"
 
 
 def table_of(top=TOP):
     """The sentence with the number of all edits, and a table with a row for each group of crates that has some."""
-    (gate, plants), crates = both(top), read_crates(top)
+    (gate, mutants), crates = both(top), read_crates(top)
     inside = {}
     for name, it in crates.items():
         inside.setdefault(group_name(it.group), []).append(name)
-    sums = [(group, [sum(many[it] for it in names) for many in (gate, plants)]) for group, names in inside.items()]
+    sums = [(group, [sum(many[it] for it in names) for many in (gate, mutants)]) for group, names in inside.items()]
     rows = "".join(f"| {group} | {many[0]} | {many[1]} |\n" for group, many in sums if any(many))
-    head = f"There are {sum(gate.values())} that the gate tries, and {sum(plants.values())} in `plants/`:"
-    return f"{head}\n\n| Crates | Tried by the gate | Planted in `plants/` |\n|---|---|---|\n{rows}"
+    head = f"There are {sum(gate.values())} that the gate tries, and {sum(mutants.values())} in `mutants/`:"
+    return f"{head}\n\n| Crates | Tried by the gate | In `mutants/` |\n|---|---|---|\n{rows}"
 
 
 def page_with_table(top=TOP):

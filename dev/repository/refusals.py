@@ -123,11 +123,11 @@ def first_sentence(text):
 
 
 def below_top(path):
-    """The place of a test from the top of the repository. An edit may be in plants/ in place of its crate."""
+    """The place of a test from the top of the repository. An edit may be in mutants/ in place of its crate."""
     if path.startswith("bindings/"):
         return path
-    planted = os.path.join("plants", path.replace("/must-fail/", "/"))
-    return planted if "/must-fail/" in path and os.path.isfile(os.path.join(TOP, planted)) else f"crates/{path}"
+    mutant = os.path.join("mutants", path.replace("/must-fail/", "/"))
+    return mutant if "/must-fail/" in path and os.path.isfile(os.path.join(TOP, mutant)) else f"crates/{path}"
 
 
 def lacking(test):

@@ -1,5 +1,5 @@
-//! Tests of lens_core, answer_text and editlens_main, and of refusals that no command shows, in a crate of their own so
-//! that each of those crates is proved once.
+//! Tests of commands over devices that do not fail, and of refusals that no command shows, in a crate of their own so
+//! that each of the crates below is proved once.
 #![tactic(auto)]
 
 #[cfg(test)]

@@ -6,7 +6,7 @@ use edit_module::Word;
 use lens_branch::{arm_form, row_form};
 use lens_core::{CarryFault, Comp, EditLens};
 use lens_flat::Flat;
-use lens_io::{Bytes, MemSink, Payloads};
+use lens_io::MemSink;
 use lens_syntax::read_program;
 use lens_types::{Form, Typed, check};
 use script_input::ProgramText;
@@ -14,7 +14,6 @@ use serde_json::Value;
 use std::alloc::Global;
 use std::rc::Rc;
 use store_new::give_line;
-use store_records::stored_lens;
 use texts::Side;
 use turn_link::{Batch, LeftSite, ReceiveFault, RightSite};
 use view_hub::Hub;
@@ -172,16 +171,6 @@ fn parts_that_are_not_there(rt: HostRuntime) {
     assert!(rt; hub.comp(0).is_some() && hub.comp(1).is_none());
 }
 
-// The version that a store of this one payload has. None if it is not a first record.
-fn version_in(alloc: Global, payload: &str) -> Option<u64> {
-    let mut records = Vec::new(alloc);
-    records
-        .push(Bytes::from_vec(payload.as_bytes().to_vec(alloc).ok()?))
-        .ok()?;
-    let stored = stored_lens(alloc, &Payloads::from_vec(records)).ok()?;
-    Some(stored.version)
-}
-
 #[test]
 fn texts_that_are_not_there(rt: HostRuntime) {
     let alloc = rt.alloc();
@@ -189,10 +178,6 @@ fn texts_that_are_not_there(rt: HostRuntime) {
     assert!(rt; part.text().is_some());
     assert!(rt; part.add(&Line::TooLong, b"\n").is_ok());
     assert!(rt; part.text().is_none());
-    let first = version_in(alloc, "{\"program\":\"main id int\",\"version\":2}");
-    assert_eq!(rt; first, Some(2));
-    let later = version_in(alloc, "{\"version\":2}");
-    assert_eq!(rt; later, None);
 }
 
 // A line that is written ends a command with the status that is given.
