@@ -93,5 +93,6 @@ int main(int words, char **word) {
     }
     printf("%ld requests, each refused once, and said so %ld times: %ld reports differ, %ld times something was left\n", requests, refusals,
            differ, kept);
-    return requests == 0 || refusals != requests || differ != 0 || kept != 0;
+    /* A text whose tokens find no memory is read again as a tree, so not every refusal stops a call. */
+    return refusals == 0 || refusals > requests || differ != 0 || kept != 0;
 }
