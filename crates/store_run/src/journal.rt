@@ -198,14 +198,13 @@ pub fn store_lines<A: StoredSession, K: Sink, D: Disk>(
     ensures counted { Counted K.Sink D.Disk (sink.old, disk.old) (sink.new, disk.new)
         (stop_in result) }
 {
+    let mut line = Line::empty(alloc);
     'lines: loop {
-        let Ok(next) = input.take_line() else {
-            return Err(Stop::NoMemory);
-        };
-        let Some(line) = next else {
-            return Ok(());
-        };
-        store_line(alloc, session, progress, &line, log, disk, sink)?;
+        match input.take_line_into(&mut line) {
+            Ok(true) => store_line(alloc, session, progress, &line, log, disk, sink)?,
+            Ok(false) => return Ok(()),
+            Err(_) => return Err(Stop::NoMemory),
+        }
     }
 }
 
