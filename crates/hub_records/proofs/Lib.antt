@@ -1,4 +1,5 @@
 pub mod Appending
+pub mod ChangesTaken
 pub mod EditTokens
 mod Examples
 pub mod FirstHubs

@@ -1,3 +1,4 @@
+pub mod ChangesTaken
 pub mod HubChanges
 pub mod HubLenses
 pub mod HubRecords

@@ -10,9 +10,11 @@ ghost use Rattle.hub_records.specs.HubChanges.{hub_change_of_tree, edits_of, edi
 ghost use Rattle.hub_records.specs.HubRecords.{hub_change_in};
 ghost use Rattle.hub_records.specs.Views.{hub_change_tree};
 
+use crate::tokens::change_by_tokens;
 use edit_journal::{EntryFault, Line, group_items, read_tree};
 use edit_module::Word;
 use hub_run::{read_edit_tree, side_and_edit};
+use json::Scratch;
 use serde_json::Value;
 use std::alloc::{AllocError, Global};
 use std::slice;
@@ -51,26 +53,41 @@ impl HubChange {
 /// - `NotAnEdit`: if and only if an `edit` in it is not the tree of a word.
 ///
 /// `NoMemory` says nothing of the line.
-pub fn read_hub_change(alloc: Global, line: &Line) -> Result<HubChange, EntryFault>
+///
+/// The scratch may hold anything. Room in it is kept, so a caller keeps one from line to line.
+pub fn read_hub_change(
+    alloc: Global,
+    line: &Line,
+    scratch: &mut Scratch,
+) -> Result<HubChange, EntryFault>
     // The change and each refusal are the definition's, both ways.
     ensures change { Gives hub_change_tree result (hub_change_of_line line.now) }
 
     // What is read has a tree.
     ensures fits { IfOk result (λ change. all_counts_fit (edits_of (hub_change_tree change)) ≡ true) }
 {
-    read_line(alloc, line)
+    read_line(alloc, line, scratch)
 }
 
-fn read_line(alloc: Global, line: &Line) -> Result<HubChange, EntryFault>
+fn read_line(alloc: Global, line: &Line, scratch: &mut Scratch) -> Result<HubChange, EntryFault>
     ensures { Gives hub_change_tree result (hub_change_of_line line.now) }
 {
     match line {
-        Line::Text(bytes) => read_text(alloc, bytes.as_slice()),
+        Line::Text(bytes) => read_text(alloc, bytes.as_slice(), scratch),
         Line::TooLong => Err(EntryFault::LineTooLong),
     }
 }
 
-fn read_text(alloc: Global, bytes: &[u8]) -> Result<HubChange, EntryFault>
+fn read_text(alloc: Global, bytes: &[u8], scratch: &mut Scratch) -> Result<HubChange, EntryFault>
+    ensures { Gives hub_change_tree result (hub_change_of_text bytes.now) }
+{
+    match change_by_tokens(alloc, bytes, scratch) {
+        Some(change) => Ok(change),
+        None => text_by_tree(alloc, bytes),
+    }
+}
+
+fn text_by_tree(alloc: Global, bytes: &[u8]) -> Result<HubChange, EntryFault>
     ensures { Gives hub_change_tree result (hub_change_of_text bytes.now) }
 {
     let tree = read_tree(alloc, bytes)?;
@@ -82,6 +99,17 @@ fn read_text(alloc: Global, bytes: &[u8]) -> Result<HubChange, EntryFault>
 /// None if and only if it is not the payload of an edit or of a group of edits. Whether the change applies does not
 /// count. Fails only if memory runs out.
 pub fn change_of_payload(alloc: Global, payload: &[u8]) -> Result<Option<HubChange>, AllocError>
+    ensures { IfOk result (λ change. option_map hub_change_tree change
+        ≡ option_and_then hub_change_in (tree_of_text payload.now)) }
+{
+    let mut scratch = Scratch::new(alloc);
+    match change_by_tokens(alloc, payload, &mut scratch) {
+        Some(change) => Ok(Some(change)),
+        None => payload_by_tree(alloc, payload),
+    }
+}
+
+fn payload_by_tree(alloc: Global, payload: &[u8]) -> Result<Option<HubChange>, AllocError>
     ensures { IfOk result (λ change. option_map hub_change_tree change
         ≡ option_and_then hub_change_in (tree_of_text payload.now)) }
 {

@@ -4,6 +4,9 @@
 //! at fault. Payloads may come from anywhere: what stands is in step, each view with the hub. The definition is
 //! `stands_for` in specs/HubStands.antt, and specs/HubRecords.antt has the records as JSON. [`read_hub_change`] reads a
 //! line of the journal.
+//!
+//! Lines and the payloads of changes are read from their tokens, without a tree. What is out of the ordinary is read as a
+//! tree, which decides.
 #![tactic(auto)]
 
 mod change;
@@ -15,6 +18,7 @@ mod payloads;
 mod reopening;
 mod saving;
 mod snapshots;
+mod tokens;
 
 pub use crate::change::{HubChange, change_in, change_of_payload, read_hub_change};
 pub use crate::lenses::{add_lens, joining_lens, joins};

@@ -14,7 +14,9 @@ use crate::change::{HubChange, change_in};
 use crate::lenses::{add_lens, joining_lens, lenses_of_payload};
 use crate::parts::{add_in, snapshot_in};
 use crate::snapshots::{are_consistent, read_parts};
+use crate::tokens::change_by_tokens;
 use hub_run::is_in_step;
+use json::Scratch;
 use lens_flat::Flat;
 use serde_json::Value;
 use std::alloc::Global;
@@ -134,14 +136,42 @@ fn take_records(
         (IsStandFault (stands_as_hub records.now)) }
     ensures count { IfOk result (λ _. opened.new.count ≤ to) }
 {
+    // Room for reading payloads, which is kept from one to the next.
+    let mut scratch = Scratch::new(alloc);
     for at in from..to {
-        take_record(alloc, at as u64 + 1, records[at].as_slice(), opened)?;
+        take_record(
+            alloc,
+            at as u64 + 1,
+            records[at].as_slice(),
+            &mut scratch,
+            opened,
+        )?;
     }
     Ok(())
 }
 
 // Goes on by the record with this number.
 fn take_record(
+    alloc: Global,
+    number: u64,
+    payload: &[u8],
+    scratch: &mut Scratch,
+    opened: &mut OpenedHub,
+) -> Result<(), RecordFault>
+    requires count { opened.old.count < number }
+    ensures stands { Reaches result
+        (hub_after_record number (hub_standing opened.old.hub opened.old.count) (hub_record_in payload.now))
+        (hub_standing opened.new.hub opened.new.count) }
+    ensures count { opened.new.count ≤ opened.old.count + 1 }
+{
+    match change_by_tokens(alloc, payload, scratch) {
+        Some(change) => take_change(number, &change, opened),
+        None => take_by_tree(alloc, number, payload, opened),
+    }
+}
+
+// Goes on by the record of this payload, whose tree decides.
+fn take_by_tree(
     alloc: Global,
     number: u64,
     payload: &[u8],

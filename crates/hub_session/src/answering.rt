@@ -21,6 +21,7 @@ use edit_journal::{EntryFault, Line};
 use edit_module::Word;
 use hub_records::{HubChange, change_payload, lenses_are_low, read_hub_change};
 use hub_run::{hub_ok_line, no_view_line};
+use json::Scratch;
 use lens_flat::Flat;
 use std::alloc::{AllocError, Global};
 use store_run::StoredAnswer;
@@ -33,6 +34,7 @@ pub(crate) fn answer_line(
     hub: &mut Hub<Flat>,
     number: u64,
     line: &Line,
+    scratch: &mut Scratch,
 ) -> Result<StoredAnswer, AllocError>
     ensures answer { IfOk result (λ a.
         stored_hub_answer (hub_state_of hub.old) number line.now ≡ Some (hub_state_of hub.new, a)) }
@@ -40,7 +42,7 @@ pub(crate) fn answer_line(
         IsHubStep (hub_state_of hub.old) number line.now (hub_state_of hub.new, a)) }
     ensures is_answer { IfOk result IsAnswer }
 {
-    match read_hub_change(alloc, line) {
+    match read_hub_change(alloc, line, scratch) {
         Ok(change) => answer_change(alloc, hub, number, &change),
         Err(EntryFault::NoMemory) => Err(AllocError),
         Err(fault) => answer_fault(alloc, number, fault),

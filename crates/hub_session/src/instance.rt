@@ -66,7 +66,7 @@ impl StoredSession for HubSession {
         number: u64,
         line: &Line,
     ) -> Result<StoredAnswer, AllocError> {
-        answer_line(alloc, &mut self.hub, number, line)
+        answer_line(alloc, &mut self.hub, number, line, &mut self.scratch)
     }
 
     fn state_lines(&self, alloc: Global) -> Result<Bytes, AllocError> {

@@ -7,6 +7,7 @@ ghost use Rattle.hub_session.specs.HubStates.{hub_changes_counted, hub_stands_fo
 
 use crate::session::HubSession;
 use hub_records::reopen_hub;
+use json::Scratch;
 use lens_io::Payloads;
 use std::alloc::Global;
 use store_run::{Opened, ReopenFault};
@@ -21,7 +22,10 @@ pub(crate) fn open(alloc: Global, payloads: &Payloads) -> Result<Opened<HubSessi
 {
     match reopen_hub(alloc, payloads.as_slice()) {
         Ok(opened) => Ok(Opened {
-            session: HubSession { hub: opened.hub },
+            session: HubSession {
+                hub: opened.hub,
+                scratch: Scratch::new(alloc),
+            },
             version: None,
             count: opened.count,
         }),

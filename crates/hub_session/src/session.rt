@@ -9,6 +9,7 @@ ghost use Rattle.hub_records.specs.HubStands.{view_more};
 
 use hub_records::add_lens;
 use hub_run::is_in_step;
+use json::Scratch;
 use lens_flat::Flat;
 use lens_types::Typed;
 use std::alloc::{AllocError, Global};
@@ -18,6 +19,8 @@ use view_hub::Hub;
 #[derive(Drop)]
 pub struct HubSession {
     pub(crate) hub: Hub<Flat>,
+    // Room for reading lines, which says nothing of the state.
+    pub(crate) scratch: Scratch,
 }
 
 impl HubSession {
