@@ -1,11 +1,11 @@
-"""What a task of crates/library_bench costs, for the scripts beside this file."""
+"""What a task of crates/bench_library costs, for the scripts beside this file."""
 
 import os
 import subprocess
 
 TOP = os.path.dirname(os.path.dirname(os.path.abspath(__file__)))
-CRATE = os.path.join(TOP, "crates", "library_bench")
-BUILT = os.path.join(CRATE, "out", "library_bench")
+CRATE = os.path.join(TOP, "crates", "bench_library")
+BUILT = os.path.join(CRATE, "out", "bench_library")
 RUNS = 3
 
 # As ./editlens runs its program.

@@ -127,7 +127,7 @@ def imports():
 
 
 def refused_imports():
-    """Each refusal leaves no store. Only the longest line is elsewhere: long_inputs makes it."""
+    """Each refusal leaves no store. Only the longest line is elsewhere: case_long_inputs makes it."""
     script = PERSON + "\n---\n"
     ann = '{"age":41,"name":"Ann"}\n'
     for given, reason in (

@@ -136,7 +136,7 @@ def test_what_is_wrong_is_named():
 
 
 def test_a_call_that_opens_its_own_type_refuses_by_each_other_variant():
-    refusals, calls = Refusals(), {it.path: it for crate in ("kept_hubs", "texts") for it in public_calls(crate)}
+    refusals, calls = Refusals(), {it.path: it for crate in ("embed_hub", "texts") for it in public_calls(crate)}
     assert refusals.of(calls["KeptHub::resume"]) == (["Refused", "StateRefused"], True)
     assert refusals.of(calls["Side::other"]) == ([], False)
 

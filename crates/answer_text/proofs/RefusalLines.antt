@@ -5,10 +5,10 @@ use Rattle.lens_forms.specs.Forms.{FormTree}
 use Rattle.lens_types.specs.Checking.{Failure}
 use Rattle.lens_types.specs.Faults.{IsFaultOf}
 use Rattle.lens_types.specs.declared.fault.TypeFault.{TypeFault}
-use Rattle.accepted_programs.specs.Program.{Refusal, typing}
-use Rattle.accepted_programs.specs.Refused.{IsProgramRefusal}
-use Rattle.accepted_programs.specs.declared.program.Refused.{Refused}
-use Rattle.accepted_programs.specs.declared.program.Refused.TheVariants.{Typing}
+use Rattle.program_accepted.specs.Program.{Refusal, typing}
+use Rattle.program_accepted.specs.Refused.{IsProgramRefusal}
+use Rattle.program_accepted.specs.declared.program.Refused.{Refused}
+use Rattle.program_accepted.specs.declared.program.Refused.TheVariants.{Typing}
 use Rattle.answer_text.specs.Lines.{typing_line}
 use Rattle.answer_text.specs.RefusalLines.{IsLineOf}
 

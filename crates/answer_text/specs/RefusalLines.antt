@@ -1,7 +1,7 @@
 -- The line of a program part that is refused.
 use Rattle.std.specs.Prelude.{◌≡◌, ℕ, List, Result, Err}
 use Rattle.lens_forms.specs.Forms.{FormTree}
-use Rattle.accepted_programs.specs.Program.{Refusal, syntax, typing}
+use Rattle.program_accepted.specs.Program.{Refusal, syntax, typing}
 use Rattle.answer_text.specs.Lines.{program_refused_line}
 use Rattle.answer_text.specs.Reasons.{syntax_reason, typing_reason}
 

@@ -1,7 +1,7 @@
 //! The refusals of programs.
 ghost use Rattle.std.specs.Prelude.{◌≡◌, ◌≢◌, ◌++◌, codes, decimal, Result, Some, IfOk, IfSome};
-ghost use Rattle.accepted_programs.specs.Program.{Refusal};
-ghost use Rattle.accepted_programs.specs.Refused.{IsKnown, IsProgramRefusal};
+ghost use Rattle.program_accepted.specs.Program.{Refusal};
+ghost use Rattle.program_accepted.specs.Refused.{IsKnown, IsProgramRefusal};
 ghost use Rattle.doc_values.specs.Types.{ty_tree};
 ghost use Rattle.lens_forms.specs.Forms.{FormTree};
 ghost use Rattle.lens_syntax.specs.Programs.{program_fault_cause};
@@ -12,10 +12,10 @@ ghost use Rattle.answer_text.specs.Lines.{program_refused_line, syntax_line, typ
 ghost use Rattle.answer_text.specs.RefusalLines.{IsLineOf};
 
 use crate::words::bytes_of;
-use accepted_programs::Refused;
 use doc_values::Ty;
 use lens_syntax::{ProgramFault, write_name, write_type};
 use lens_types::TypeFault;
+use program_accepted::Refused;
 use std::alloc::{AllocError, Global};
 use texts::{Bytes, Name};
 

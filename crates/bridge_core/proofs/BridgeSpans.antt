@@ -6,8 +6,8 @@ use Rattle.std.proofs.lemmas.Str.{IsUtf8-from_is_utf8}
 use Rattle.std.specs.Cmp.Lexicographic.{bytes_decides}
 use Rattle.texts.specs.Characters.{character_count, splice as spliced}
 use Rattle.texts.proofs.Conjunction.{first, second}
-use Rattle.text_bridges.specs.declared.run.Run.{Run}
-use Rattle.text_bridges.specs.Runs.{far_spliced, shortest}
+use Rattle.bridge_texts.specs.declared.run.Run.{Run}
+use Rattle.bridge_texts.specs.Runs.{far_spliced, shortest}
 use Rattle.doc_values.specs.Documents.{DocTree, unit, text, rec, alt, DocTrees}
 use Rattle.doc_values.specs.Types.{TyTree, ty_unit, ty_bool, ty_int, ty_text, ty_enum, ty_rec, ty_alt, ty_list, ty_keyed, ty_ordered, FieldTrees, is_well_formed}
 use Rattle.doc_values.specs.Typing.{has, has_fields, lookup_field, lookup_type}

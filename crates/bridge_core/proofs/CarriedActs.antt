@@ -5,9 +5,9 @@ use Rattle.std.specs.Str.{is_utf8, IsUtf8}
 use Rattle.std.proofs.lemmas.Str.{IsUtf8-from_is_utf8}
 use Rattle.std.specs.Cmp.Lexicographic.{bytes_decides}
 use Rattle.texts.specs.Characters.{character_count, splice as spliced}
-use Rattle.text_bridges.specs.declared.run.Run.{Run}
-use Rattle.text_bridges.specs.Runs.{Piece, carried, near_spliced, shortest, all_spliced}
-use Rattle.text_bridges.specs.Laws.{SpansTexts}
+use Rattle.bridge_texts.specs.declared.run.Run.{Run}
+use Rattle.bridge_texts.specs.Runs.{Piece, carried, near_spliced, shortest, all_spliced}
+use Rattle.bridge_texts.specs.Laws.{SpansTexts}
 use Rattle.doc_values.specs.Documents.{DocTree, int, text, rec, alt, DocTrees}
 use Rattle.doc_values.specs.Types.{TyTree, ty_bool, ty_int, ty_text, ty_enum, ty_rec, ty_alt, FieldTrees}
 use Rattle.doc_values.specs.Typing.{has, lookup_field, lookup_type}

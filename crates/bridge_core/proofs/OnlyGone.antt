@@ -2,8 +2,8 @@
 use Rattle.std.proofs.Common.{◌≡◌, ℕ, Bool, true, false, List, Option, Some, Ok, Err, refl, sym, ap, ◌∙◌, subst, ◌⊎◌, inl, inr}
 use Rattle.std.specs.Prelude.{bytes_eq, cond}
 use Rattle.std.specs.Str.{is_utf8}
-use Rattle.text_bridges.specs.declared.run.Run.{Run}
-use Rattle.text_bridges.specs.Runs.{carried, near_spliced, shortest}
+use Rattle.bridge_texts.specs.declared.run.Run.{Run}
+use Rattle.bridge_texts.specs.Runs.{carried, near_spliced, shortest}
 use Rattle.texts.specs.Characters.{character_count}
 use Rattle.doc_values.specs.Documents.{DocTree, text, rec, alt}
 use Rattle.doc_values.specs.Types.{TyTree, ty_int, ty_text, ty_rec, ty_alt, ty_list, ty_keyed, ty_ordered, FieldTrees}

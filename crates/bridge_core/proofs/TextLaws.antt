@@ -2,9 +2,9 @@
 use Rattle.std.specs.Prelude.{◌≡◌, ℕ, List, [], Some}
 use Rattle.std.specs.Str.{IsUtf8}
 use Rattle.texts.specs.Characters.{character_count, splice}
-use Rattle.text_bridges.specs.declared.run.Run.{Run}
-use Rattle.text_bridges.specs.Runs.{far_spliced, near_spliced, carried, all_spliced, shortest}
-use Rattle.text_bridges.specs.Laws.{SpansTexts, IsCarriedTo}
+use Rattle.bridge_texts.specs.declared.run.Run.{Run}
+use Rattle.bridge_texts.specs.Runs.{far_spliced, near_spliced, carried, all_spliced, shortest}
+use Rattle.bridge_texts.specs.Laws.{SpansTexts, IsCarriedTo}
 
 -- `a_text_is_spanned`, `a_splice_of_the_far_text_is_spanned` and `a_splice_of_the_near_text_is_carried`
 abbrev pub SameTexts : Type 0

@@ -3,8 +3,8 @@
 use Rattle.std.specs.Prelude.{ℕ, Bool, List, [], ◌&&◌, if◌then◌else◌, Option, None, Some, Result, Ok, Err}
 use Rattle.std.specs.Str.{is_utf8}
 use Rattle.texts.specs.Characters.{character_count}
-use Rattle.text_bridges.specs.declared.run.Run.{Run}
-use Rattle.text_bridges.specs.Runs.{far_spliced, shortest}
+use Rattle.bridge_texts.specs.declared.run.Run.{Run}
+use Rattle.bridge_texts.specs.Runs.{far_spliced, shortest}
 use Rattle.doc_values.specs.Documents.{DocTree, text, rec, alt, DocTrees}
 use Rattle.doc_values.specs.Types.{TyTree, ty_text, ty_rec, ty_alt}
 use Rattle.doc_values.specs.Typing.{lookup_field, lookup_type}

@@ -1,7 +1,7 @@
 -- Bridges as plain trees: how a document, the far one, differs from another, the near one.
 -- In order: `BridgeTree`, and lists of bridges.
 use Rattle.std.specs.Prelude.{ℕ, List, [], ◌∷◌, slice_set, slice_index_or}
-use Rattle.text_bridges.specs.declared.run.Run.{Run}
+use Rattle.bridge_texts.specs.declared.run.Run.{Run}
 use Rattle.doc_values.specs.Documents.{DocTrees, no_docs, more_docs}
 
 -- both are the same; both have any value of a type without parts; nothing of the near one is followed; the runs of two

@@ -1,7 +1,7 @@
 -- What a bridge says of two documents of a type: `Spans`.
 use Rattle.std.specs.Prelude.{◌≡◌, Bool, true, false, List, Option, None, Some}
-use Rattle.text_bridges.specs.declared.run.Run.{Run}
-use Rattle.text_bridges.specs.Laws.{SpansTexts}
+use Rattle.bridge_texts.specs.declared.run.Run.{Run}
+use Rattle.bridge_texts.specs.Laws.{SpansTexts}
 use Rattle.doc_values.specs.Documents.{DocTree, text, rec, alt, DocTrees, no_docs, more_docs}
 use Rattle.doc_values.specs.Types.{TyTree, ty_bool, ty_int, ty_text, ty_enum, ty_rec, ty_alt, ty_list, ty_keyed}
 use Rattle.doc_values.specs.Types.{ty_ordered, FieldTrees, no_fields, more_fields}

@@ -1,7 +1,7 @@
 //! What bridges between documents keep, as laws. Each function does nothing: its clauses are the laws.
 ghost use Rattle.bridge_core.specs.Laws.{BridgeSpans, CarriedActs, OnlyGoneIsRefused};
 
-use text_bridges::{
+use bridge_texts::{
     a_splice_of_the_far_text_is_spanned, a_splice_of_the_near_text_is_carried, a_text_is_spanned,
 };
 

@@ -4,9 +4,9 @@
 //! Words: the files, which lie in the folder where the program runs. The program fails where something differs.
 #![tactic(auto)]
 
+use case_fault_files::{StorePrograms, begins_with, run_files};
 use case_files::Commands;
 use editlens_main::editlens;
-use fault_files::{StorePrograms, begins_with, run_files};
 use lens_io::{MemDisk, MemSink, MemSource};
 use std::alloc::Global;
 

@@ -16,8 +16,8 @@ use crate::places::{any_shape, place_in};
 use edit_module::Word;
 use edit_module::word::Primitive;
 use hold_shapes::{Held, Place, PlanFault, Shape, ShapeEdit};
+use law_shapes::plans_are_lawful;
 use lens_core::{Begun, Carried, CarryFault, Comp, Comps};
-use shape_laws::plans_are_lawful;
 use std::alloc::{AllocError, Global};
 use texts::Twin;
 

@@ -7,10 +7,10 @@ use Rattle.hold_shapes.specs.Trees.{child, child_from, children_of, end_of, desc
 use Rattle.hold_shapes.specs.Plans.{insert_part, remove_part, move_part, place_for_child}
 use Rattle.hold_shapes.proofs.ValidDepths.{Low, HeadAtMost, PutOk, end-zero, end-suc}
 use Rattle.hold_shapes.proofs.ChildPlaces.{child-at}
-use Rattle.shape_laws.proofs.Children.{within-descendants, before-part}
-use Rattle.shape_laws.proofs.OtherChildren.{IsSlot, slot-left, put-back-same, length-between}
-use Rattle.shape_laws.proofs.Lawful.{past}
-use Rattle.shape_laws.proofs.Parents.{next}
+use Rattle.law_shapes.proofs.Children.{within-descendants, before-part}
+use Rattle.law_shapes.proofs.OtherChildren.{IsSlot, slot-left, put-back-same, length-between}
+use Rattle.law_shapes.proofs.Lawful.{past}
+use Rattle.law_shapes.proofs.Parents.{next}
 
 -- ---- a part put into a list and taken out again
 

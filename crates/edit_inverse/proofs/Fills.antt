@@ -20,7 +20,7 @@ use Rattle.hold_shapes.specs.declared.lists.TheConstants.{MOST_ITEMS}
 use Rattle.texts.specs.Keys.{is_rising, all_after, is_before, key_rank, key_place}
 use Rattle.texts.proofs.Conjunction.{both}
 use Rattle.texts.proofs.KeyOrder.{bytes_eq-refl, rising-first, rising-rest, after-all, key_place-past, key_place-found}
-use Rattle.shape_laws.proofs.Content.{content-old_places}
+use Rattle.law_shapes.proofs.Content.{content-old_places}
 use Rattle.doc_values.specs.Documents.{DocTree, unit, hold, docs_of}
 use Rattle.doc_values.specs.Types.{TyTree, ty_list, ty_keyed, ty_ordered}
 use Rattle.doc_values.specs.Initial.{initial}
@@ -29,7 +29,7 @@ use Rattle.edit_module.specs.Words.{modify, shape, WordTree, no_primitives}
 use Rattle.edit_module.specs.Action.{act}
 use Rattle.edit_inverse.specs.Paths.{next_path, paths_after, parent_path}
 use Rattle.edit_inverse.specs.Construct.{reshape, unless_empty, full_insertions, last_insertion, insertions, modify_each, put_each, graft_each}
-use Rattle.shape_laws.proofs.Content.{content-insert}
+use Rattle.law_shapes.proofs.Content.{content-insert}
 use Rattle.edit_inverse.proofs.Ways.{Way, way-next, length-next_path}
 use Rattle.edit_inverse.proofs.Moves.{Makes}
 use Rattle.edit_inverse.proofs.Grafts.{graft-next, next-named}

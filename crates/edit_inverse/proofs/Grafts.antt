@@ -16,12 +16,12 @@ use Rattle.hold_shapes.specs.Plans.{plan, at_place, old_places, remove_part, gra
 use Rattle.edit_inverse.specs.Paths.{next_path, parent_path}
 use Rattle.hold_shapes.proofs.ValidDepths.{HeadAtMost, end-zero, end-suc}
 use Rattle.hold_shapes.proofs.ChildPlaces.{child-at}
-use Rattle.shape_laws.proofs.Content.{content-insert}
-use Rattle.shape_laws.proofs.Children.{not-before, next-place, children-skip}
+use Rattle.law_shapes.proofs.Content.{content-insert}
+use Rattle.law_shapes.proofs.Children.{not-before, next-place, children-skip}
 use Rattle.edit_inverse.proofs.Ways.{Way, on-way, end-before, way-last, way-next, parent-next_path}
 use Rattle.edit_inverse.proofs.Moves.{Makes}
 use Rattle.edit_inverse.proofs.Returns.{at-ok, if-ok, else-ok, ok-shape, ok-origins}
-use Rattle.shape_laws.proofs.Parents.{next as after-all}
+use Rattle.law_shapes.proofs.Parents.{next as after-all}
 
 -- ---- a graft
 

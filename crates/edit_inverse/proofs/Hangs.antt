@@ -12,21 +12,21 @@ use Rattle.hold_shapes.specs.Causes.{Place, Deep}
 use Rattle.hold_shapes.specs.Gather.{content_at}
 use Rattle.hold_shapes.specs.Trees.{is_valid, node, child, child_at, children, end_of}
 use Rattle.hold_shapes.specs.Plans.{plan, at_place, old_places, insert_part, remove_part, move_part, moved_depths, all_at_most, hang, hang_at, hang_below, hang_depths}
-use Rattle.shape_laws.specs.Children.{child_path}
+use Rattle.law_shapes.specs.Children.{child_path}
 use Rattle.edit_inverse.specs.Paths.{parent_path, last_number}
 use Rattle.hold_shapes.proofs.ValidDepths.{GoesOn, Low, Whole, whole}
 use Rattle.hold_shapes.proofs.ChildPlaces.{length-remove_part}
-use Rattle.shape_laws.proofs.Content.{content-move_part}
-use Rattle.shape_laws.proofs.SamePrefix.{node-in, node-child}
-use Rattle.shape_laws.proofs.OtherChildren.{length-between}
+use Rattle.law_shapes.proofs.Content.{content-move_part}
+use Rattle.law_shapes.proofs.SamePrefix.{node-in, node-child}
+use Rattle.law_shapes.proofs.OtherChildren.{length-between}
 use Rattle.edit_inverse.proofs.Blocks.{slice-inserted, remove-inserted, end-inserted, get-inserted, length-inserted}
 use Rattle.edit_inverse.proofs.Moves.{Makes, below_node, put-last, child-out, shift-home, left-still}
 use Rattle.edit_inverse.proofs.Returns.{at-ok, else-ok, ok-shape, ok-origins}
 use Rattle.texts.proofs.Tests.{not_zero}
-use Rattle.shape_laws.proofs.Lawful.{past}
+use Rattle.law_shapes.proofs.Lawful.{past}
 use Rattle.texts.proofs.Conjunction.{both, first as head-true, second as tail-true}
-use Rattle.shape_laws.proofs.Parents.{lower}
-use Rattle.shape_laws.proofs.ChildLaws.{still-named}
+use Rattle.law_shapes.proofs.Parents.{lower}
+use Rattle.law_shapes.proofs.ChildLaws.{still-named}
 
 -- ---- depths that are counted from another node and back
 

@@ -17,11 +17,11 @@ use Rattle.hold_shapes.specs.Causes.{Place, Range, Length}
 use Rattle.hold_shapes.specs.Gather.{content_at}
 use Rattle.hold_shapes.specs.Plans.{plan, list_of, is_count, is_each_new, has_number, old_places}
 use Rattle.texts.proofs.Conjunction.{both, first, second}
-use Rattle.shape_laws.specs.Laws.{is_old}
-use Rattle.shape_laws.proofs.Once.{kept}
-use Rattle.shape_laws.proofs.Content.{content-old_places}
+use Rattle.law_shapes.specs.Laws.{is_old}
+use Rattle.law_shapes.proofs.Once.{kept}
+use Rattle.law_shapes.proofs.Content.{content-old_places}
 use Rattle.edit_inverse.specs.Inverse.{place_among, inverse_order}
-use Rattle.shape_laws.proofs.Content.{map-insert, content-remove}
+use Rattle.law_shapes.proofs.Content.{map-insert, content-remove}
 use Rattle.edit_inverse.proofs.Moves.{Makes}
 use Rattle.edit_inverse.proofs.Returns.{if-ok, ok-shape, ok-origins}
 use Rattle.edit_inverse.proofs.Fills.{ins-makes}

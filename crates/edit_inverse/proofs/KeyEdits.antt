@@ -12,9 +12,9 @@ use Rattle.hold_shapes.specs.Gather.{content_at}
 use Rattle.hold_shapes.specs.Plans.{plan, old_places, put_key, drop_key, rename_to, rename_key}
 use Rattle.texts.specs.Keys.{is_rising, all_after, is_before, key_rank, key_from, key_place}
 use Rattle.texts.proofs.KeyOrder.{bytes_eq-refl, rising-first, rising-rest, rising-insert, rising-remove, after-all, after-tail, before-differs, after-differs, rank-length, key_place-found, key_place-remove, rank-none}
-use Rattle.shape_laws.proofs.Lawful.{key-within}
-use Rattle.shape_laws.proofs.Content.{content-old_places, key-found}
-use Rattle.shape_laws.proofs.Content.{map-insert, content-remove}
+use Rattle.law_shapes.proofs.Lawful.{key-within}
+use Rattle.law_shapes.proofs.Content.{content-old_places, key-found}
+use Rattle.law_shapes.proofs.Content.{map-insert, content-remove}
 use Rattle.edit_inverse.proofs.Moves.{Makes}
 use Rattle.edit_inverse.proofs.Fills.{put-makes}
 use Rattle.edit_inverse.proofs.Items.{made-same, back-through, remove-inserted-item, insert-removed-item}

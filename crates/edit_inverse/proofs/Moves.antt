@@ -14,16 +14,16 @@ use Rattle.hold_shapes.specs.Plans.{Planned, plan, at_place, old_places, insert_
 use Rattle.hold_shapes.proofs.ValidDepths.{Low, HeadAtMost, above-end, end-ok}
 use Rattle.hold_shapes.proofs.ChildPlaces.{child-at, block, front-length, length-remove_part}
 use Rattle.hold_shapes.proofs.Nodes.{child-numbered}
-use Rattle.shape_laws.proofs.Content.{content-move_part}
-use Rattle.shape_laws.proofs.Content.{end-within}
-use Rattle.shape_laws.proofs.SamePrefix.{node-same, node-in, prefix-less, prefix-take}
-use Rattle.shape_laws.proofs.Children.{before-part, children-more, child-at_end, child-at_place, children-less, child-descendant}
-use Rattle.shape_laws.proofs.OtherChildren.{length-between}
+use Rattle.law_shapes.proofs.Content.{content-move_part}
+use Rattle.law_shapes.proofs.Content.{end-within}
+use Rattle.law_shapes.proofs.SamePrefix.{node-same, node-in, prefix-less, prefix-take}
+use Rattle.law_shapes.proofs.Children.{before-part, children-more, child-at_end, child-at_place, children-less, child-descendant}
+use Rattle.law_shapes.proofs.OtherChildren.{length-between}
 use Rattle.edit_inverse.proofs.Blocks.{remove-inserted, move-back, put-head, end-inserted, home, length-inserted}
-use Rattle.shape_laws.proofs.Lawful.{past}
+use Rattle.law_shapes.proofs.Lawful.{past}
 use Rattle.texts.proofs.Conjunction.{both}
-use Rattle.shape_laws.proofs.Parents.{deeper}
-use Rattle.shape_laws.proofs.ChildLaws.{still-named}
+use Rattle.law_shapes.proofs.Parents.{deeper}
+use Rattle.law_shapes.proofs.ChildLaws.{still-named}
 
 -- the plan of an edit makes this shape, and these contents from those, the fresh ones being one that is given
 abbrev pub Makes : {A : Type 0} → Shape → ShapeEdit → A → List A → Shape → List A → Type 0

@@ -9,7 +9,7 @@ use Rattle.hold_shapes.specs.Shapes.{size_of, place_of}
 use Rattle.hold_shapes.specs.Trees.{node, child, children, end_of}
 use Rattle.doc_values.specs.Documents.{DocTree, unit, DocTrees, no_docs, more_docs, doc_list}
 use Rattle.doc_values.specs.Types.{TyTree}
-use Rattle.shape_laws.specs.Children.{child_path}
+use Rattle.law_shapes.specs.Children.{child_path}
 use Rattle.edit_module.specs.declared.word.Primitive.{Primitive}
 use Rattle.edit_module.specs.Words.{WordTree, no_primitives, word_of, joined, modify, shape}
 use Rattle.edit_module.specs.Views.{primitive_tree}

@@ -11,11 +11,11 @@ use Rattle.hold_shapes.specs.Causes.{PlanCause, Range}
 use Rattle.hold_shapes.specs.Gather.{content_at}
 use Rattle.hold_shapes.specs.Trees.{node, child, children, end_of}
 use Rattle.hold_shapes.specs.Plans.{Planned, plan, at_place, old_places, insert_part, remove_part, move_part, prune, prune_child, place_for_child, shift, shift_child}
-use Rattle.shape_laws.proofs.Content.{content-remove_part, content-move_part}
-use Rattle.shape_laws.proofs.SamePrefix.{node-in}
+use Rattle.law_shapes.proofs.Content.{content-remove_part, content-move_part}
+use Rattle.law_shapes.proofs.SamePrefix.{node-in}
 use Rattle.edit_inverse.proofs.Blocks.{remove-inserted, end-inserted, length-inserted}
 use Rattle.edit_inverse.proofs.Moves.{Makes, below_node, put-child, put-last, child-out, shift-home}
-use Rattle.shape_laws.proofs.ChildLaws.{still-named}
+use Rattle.law_shapes.proofs.ChildLaws.{still-named}
 
 -- ---- what a plan that is there says
 

@@ -9,8 +9,8 @@ use Rattle.hold_shapes.specs.Plans.{insert_part}
 use Rattle.edit_inverse.specs.Paths.{next_number, next_path, paths_after, parent_path}
 use Rattle.hold_shapes.proofs.ValidDepths.{GoesOn, HeadAtMost, above-end}
 use Rattle.hold_shapes.proofs.ChildPlaces.{child-at}
-use Rattle.shape_laws.proofs.SamePrefix.{SamePrefix, prefix-less, child-same}
-use Rattle.shape_laws.proofs.Children.{no_child-test, children-more, child-at_end}
+use Rattle.law_shapes.proofs.SamePrefix.{SamePrefix, prefix-less, child-same}
+use Rattle.law_shapes.proofs.Children.{no_child-test, children-more, child-at_end}
 use Rattle.std.proofs.lemmas.Bool.{lt-ltb}
 
 -- ---- lists with more behind them

@@ -16,7 +16,7 @@ ghost use Rattle.edit_module.specs.Views.{word_tree};
 ghost use Rattle.edit_inverse.specs.Construct.{construct_each, only, reshape, graft_each};
 ghost use Rattle.edit_inverse.specs.Inverse.{inverse_primitive, inverse_shape, inverse_order, count_at};
 ghost use Rattle.edit_inverse.specs.Paths.{parent_path, last_number, paths_after};
-ghost use Rattle.shape_laws.specs.Children.{child_path};
+ghost use Rattle.law_shapes.specs.Children.{child_path};
 ghost use Rattle.edit_inverse.specs.Steps.{contents_of};
 ghost use Rattle.hold_shapes.proofs.ValidDepths.{GoesOn};
 

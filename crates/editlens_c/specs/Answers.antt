@@ -2,14 +2,14 @@
 -- `part_of`, `IsNotOpen`, `IsAnswer`.
 use Rattle.std.specs.Prelude.{◌≡◌, ◌<◌, ◌==◌, ℕ, List, ◌++◌, length, drop, Bool, true, false, Option, None, Some}
 use Rattle.std.specs.Prelude.{if◌then◌else◌}
-use Rattle.kept_sessions.specs.Kept.{text_of}
-use Rattle.kept_sessions.specs.declared.kept.Kept.{Kept}
-use Rattle.kept_sessions.specs.declared.kept.Kept.TheVariants as kept
-use Rattle.kept_sessions.specs.declared.outcome.Outcome.{Outcome}
-use Rattle.kept_sessions.specs.declared.outcome.Outcome.TheVariants as outcome
-use Rattle.kept_sessions.specs.declared.outcome.Part.{Part}
-use Rattle.kept_sessions.specs.declared.outcome.Part.TheVariants.{State, Left, Complement, Right, LeftType, RightType}
-use Rattle.kept_sessions.specs.declared.outcome.Part.TheVariants.{Snapshot, Change, UndoLeft, UndoRight}
+use Rattle.embed_session.specs.Kept.{text_of}
+use Rattle.embed_session.specs.declared.kept.Kept.{Kept}
+use Rattle.embed_session.specs.declared.kept.Kept.TheVariants as kept
+use Rattle.embed_session.specs.declared.outcome.Outcome.{Outcome}
+use Rattle.embed_session.specs.declared.outcome.Outcome.TheVariants as outcome
+use Rattle.embed_session.specs.declared.outcome.Part.{Part}
+use Rattle.embed_session.specs.declared.outcome.Part.TheVariants.{State, Left, Complement, Right, LeftType, RightType}
+use Rattle.embed_session.specs.declared.outcome.Part.TheVariants.{Snapshot, Change, UndoLeft, UndoRight}
 use Rattle.editlens_c.specs.declared.answer.Answer.{Answer}
 use Rattle.editlens_c.specs.declared.codes.TheConstants as code
 use Rattle.editlens_c.specs.declared.reasons.Reason.{Reason}

@@ -3,15 +3,15 @@
 use Rattle.std.specs.Prelude.{◌≡◌, ◌==◌, ℕ, length, Option, None, Some, if◌then◌else◌}
 use Rattle.hub_run.specs.declared.views.HubRefused.{HubRefused}
 use Rattle.hub_run.specs.declared.views.HubRefused.TheVariants.{TooManyViews, InView, ViewsDiffer, NoMemory}
-use Rattle.kept_hubs.specs.Kept.{text_of}
-use Rattle.kept_hubs.specs.declared.kept.KeptHub.{KeptHub}
-use Rattle.kept_hubs.specs.declared.kept.KeptHub.TheVariants as kept
-use Rattle.kept_hubs.specs.declared.outcome.HubOutcome.{HubOutcome}
-use Rattle.kept_hubs.specs.declared.outcome.HubOutcome.TheVariants as outcome
-use Rattle.kept_hubs.specs.declared.outcome.HubStateFault.{HubStateFault}
-use Rattle.kept_hubs.specs.declared.outcome.HubStateFault.TheVariants as fault
-use Rattle.kept_hubs.specs.declared.outcome.HubPart.{HubPart}
-use Rattle.kept_hubs.specs.declared.outcome.HubPart.TheVariants.{State, Document, ViewDocument, ViewComplement}
+use Rattle.embed_hub.specs.Kept.{text_of}
+use Rattle.embed_hub.specs.declared.kept.KeptHub.{KeptHub}
+use Rattle.embed_hub.specs.declared.kept.KeptHub.TheVariants as kept
+use Rattle.embed_hub.specs.declared.outcome.HubOutcome.{HubOutcome}
+use Rattle.embed_hub.specs.declared.outcome.HubOutcome.TheVariants as outcome
+use Rattle.embed_hub.specs.declared.outcome.HubStateFault.{HubStateFault}
+use Rattle.embed_hub.specs.declared.outcome.HubStateFault.TheVariants as fault
+use Rattle.embed_hub.specs.declared.outcome.HubPart.{HubPart}
+use Rattle.embed_hub.specs.declared.outcome.HubPart.TheVariants.{State, Document, ViewDocument, ViewComplement}
 use Rattle.editlens_c.specs.Reasons.{no_place, item_cause, line_cause, program_cause, program_offset}
 use Rattle.editlens_c.specs.declared.answer.Answer.{Answer}
 use Rattle.editlens_c.specs.declared.codes.TheConstants as code

@@ -5,10 +5,10 @@ use base.Fraction.{full_share}
 use denote.RawPtr.{Ptr, block_ptr, null_ptr, lies_at}
 use Rattle.core.specs.Mem.{type_size}
 use Rattle.core.specs.Ptr.{if_non_null}
-use Rattle.kept_hubs.specs.Kept.{IsOpened, IsResumed, IsStepped, IsShown, text_of}
-use Rattle.kept_hubs.specs.declared.kept.KeptHub.{KeptHub}
-use Rattle.kept_hubs.specs.declared.outcome.HubOutcome.{HubOutcome}
-use Rattle.kept_hubs.specs.declared.outcome.HubPart.{HubPart}
+use Rattle.embed_hub.specs.Kept.{IsOpened, IsResumed, IsStepped, IsShown, text_of}
+use Rattle.embed_hub.specs.declared.kept.KeptHub.{KeptHub}
+use Rattle.embed_hub.specs.declared.outcome.HubOutcome.{HubOutcome}
+use Rattle.embed_hub.specs.declared.outcome.HubPart.{HubPart}
 use Rattle.editlens_c.specs.Answers.{IsNotOpen, IsUntouched, IsWritten}
 use Rattle.editlens_c.specs.HubAnswers.{hub_closed_status, hub_status_of, hub_closed_reason, hub_reason_of}
 use Rattle.editlens_c.specs.HubAnswers.{IsHubAnswer, hub_part_of}

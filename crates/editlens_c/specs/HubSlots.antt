@@ -1,6 +1,6 @@
 -- What lies at the address of a hub.
 use Rattle.std.specs.Prelude.{◌≡◌, ◌==◌, ℕ, Bool, true, false, Option, None, Some, if◌then◌else◌}
-use Rattle.kept_hubs.specs.declared.kept.KeptHub.{KeptHub}
+use Rattle.embed_hub.specs.declared.kept.KeptHub.{KeptHub}
 use Rattle.editlens_c.specs.declared.hub_slot.HubSlot.{HubSlot}
 use Rattle.editlens_c.specs.declared.codes.TheConstants as code
 

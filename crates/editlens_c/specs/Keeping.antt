@@ -8,10 +8,10 @@ use Rattle.core.specs.Ptr.{if_non_null}
 use Rattle.edit_journal.specs.Pieces.{texts_of}
 use Rattle.texts.specs.declared.side.Side.{Side}
 use Rattle.texts.specs.declared.side.Side.TheVariants.{Left, Right}
-use Rattle.kept_sessions.specs.Kept.{IsOpened, IsImported, IsResumed, IsReopened, IsStepped, IsShown, text_of}
-use Rattle.kept_sessions.specs.declared.kept.Kept.{Kept}
-use Rattle.kept_sessions.specs.declared.outcome.Outcome.{Outcome}
-use Rattle.kept_sessions.specs.declared.outcome.Part.{Part}
+use Rattle.embed_session.specs.Kept.{IsOpened, IsImported, IsResumed, IsReopened, IsStepped, IsShown, text_of}
+use Rattle.embed_session.specs.declared.kept.Kept.{Kept}
+use Rattle.embed_session.specs.declared.outcome.Outcome.{Outcome}
+use Rattle.embed_session.specs.declared.outcome.Part.{Part}
 use Rattle.editlens_c.specs.Answers.{closed_status, status_of, IsAnswer, IsNotOpen, IsUntouched, part_of, IsWritten}
 use Rattle.editlens_c.specs.Slots.{held_in, IsEnded}
 use Rattle.editlens_c.specs.contracts.slot.Slot.{the_row}

@@ -1,8 +1,8 @@
 -- Why something is refused, as the numbers of codes.rt. Read it from the end: `reason_of`, `closed_reason`, then the
 -- causes.
 use Rattle.std.specs.Prelude.{ℕ}
-use Rattle.accepted_programs.specs.declared.program.Refused.{Refused}
-use Rattle.accepted_programs.specs.declared.program.Refused.TheVariants as refused
+use Rattle.program_accepted.specs.declared.program.Refused.{Refused}
+use Rattle.program_accepted.specs.declared.program.Refused.TheVariants as refused
 use Rattle.edit_journal.specs.declared.fault.EntryFault.{EntryFault}
 use Rattle.edit_journal.specs.declared.fault.EntryFault.TheVariants as entry
 use Rattle.edit_module.specs.declared.fault.Cause.{Cause}
@@ -13,12 +13,12 @@ use Rattle.lens_types.specs.declared.fault.TypeFault.{TypeFault}
 use Rattle.lens_types.specs.declared.fault.TypeFault.TheVariants as typing
 use Rattle.store_records.specs.declared.record_fault.RecordFault.{RecordFault}
 use Rattle.store_records.specs.declared.record_fault.RecordFault.TheVariants as record_fault
-use Rattle.kept_sessions.specs.declared.kept.Kept.{Kept}
-use Rattle.kept_sessions.specs.declared.kept.Kept.TheVariants as kept
-use Rattle.kept_sessions.specs.declared.outcome.Outcome.{Outcome}
-use Rattle.kept_sessions.specs.declared.outcome.Outcome.TheVariants as outcome
-use Rattle.kept_sessions.specs.declared.outcome.StateFault.{StateFault}
-use Rattle.kept_sessions.specs.declared.outcome.StateFault.TheVariants as state
+use Rattle.embed_session.specs.declared.kept.Kept.{Kept}
+use Rattle.embed_session.specs.declared.kept.Kept.TheVariants as kept
+use Rattle.embed_session.specs.declared.outcome.Outcome.{Outcome}
+use Rattle.embed_session.specs.declared.outcome.Outcome.TheVariants as outcome
+use Rattle.embed_session.specs.declared.outcome.StateFault.{StateFault}
+use Rattle.embed_session.specs.declared.outcome.StateFault.TheVariants as state
 use Rattle.editlens_c.specs.declared.codes.TheConstants as code
 use Rattle.editlens_c.specs.declared.reasons.Reason.{Reason}
 

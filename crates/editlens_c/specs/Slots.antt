@@ -1,6 +1,6 @@
 -- What lies at the address of a session.
 use Rattle.std.specs.Prelude.{◌≡◌, ◌==◌, ℕ, Bool, true, false, Option, None, Some, if◌then◌else◌}
-use Rattle.kept_sessions.specs.declared.kept.Kept.{Kept}
+use Rattle.embed_session.specs.declared.kept.Kept.{Kept}
 use Rattle.editlens_c.specs.declared.slot.Slot.{Slot}
 use Rattle.editlens_c.specs.declared.codes.TheConstants as code
 

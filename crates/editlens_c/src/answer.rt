@@ -6,7 +6,7 @@ ghost use Rattle.editlens_c.specs.Reasons.{no_place, closed_reason, reason_of};
 
 use crate::codes::*;
 use crate::reasons::{Reason, closed_reason, reason_of};
-use kept_sessions::{Kept, Outcome, Part};
+use embed_session::{Kept, Outcome, Part};
 
 /// A status with its numbers, and the number of bytes of the text.
 #[repr(C)]

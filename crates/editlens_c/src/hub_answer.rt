@@ -10,8 +10,8 @@ use crate::answer::Answer;
 use crate::codes::*;
 use crate::hub_codes::*;
 use crate::reasons::{Reason, alone, item_cause, line_cause, program_cause, program_offset};
+use embed_hub::{HubOutcome, HubPart, HubStateFault, KeptHub};
 use hub_run::HubRefused;
-use kept_hubs::{HubOutcome, HubPart, HubStateFault, KeptHub};
 
 // The answer to a call on a hub that ended so.
 pub(crate) fn hub_answer_to(outcome: HubOutcome, kept: &KeptHub) -> Answer

@@ -3,7 +3,7 @@ ghost use Rattle.std.specs.Prelude.{◌≡◌};
 ghost use Rattle.editlens_c.specs.HubSlots.{IsHubPut, IsHubEnded, is_hub_taken};
 
 use crate::codes::{DONE, HUB_WORD, NOT_OPEN};
-use kept_hubs::KeptHub;
+use embed_hub::KeptHub;
 
 /// A word, and a hub behind it if the word is the word of magic. Any other word says that nothing is open, whatever
 /// is behind it.

@@ -15,7 +15,7 @@ use crate::hub_answer::{
     hub_answer_to, hub_closed_status, hub_part_of, hub_plain_answer, hub_standing_of,
 };
 use crate::hub_slot::HubSlot;
-use kept_hubs::KeptHub;
+use embed_hub::KeptHub;
 use std::alloc::Global;
 
 /// How many bytes a hub takes. The caller's memory is aligned to 16 bytes, and they are 0 before its first use.

@@ -4,12 +4,12 @@ ghost use Rattle.editlens_c.specs.Reasons.{no_place, item_cause, line_cause, syn
 ghost use Rattle.editlens_c.specs.Reasons.{program_offset, state_cause, record_reason, closed_reason, reason_of};
 
 use crate::codes::*;
-use accepted_programs::Refused;
 use edit_journal::EntryFault;
 use edit_module::Cause;
-use kept_sessions::{Kept, Outcome, StateFault};
+use embed_session::{Kept, Outcome, StateFault};
 use lens_syntax::ProgramFault;
 use lens_types::TypeFault;
+use program_accepted::Refused;
 use store_records::RecordFault;
 
 /// The number of a cause, and two places.

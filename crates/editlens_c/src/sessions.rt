@@ -14,7 +14,7 @@ use crate::answer::{
 };
 use crate::codes::{DONE, NOT_OPEN, SMALL_BUFFER, UNKNOWN_PART};
 use crate::slot::Slot;
-use kept_sessions::Kept;
+use embed_session::Kept;
 use std::alloc::Global;
 use texts::Side;
 

@@ -3,7 +3,7 @@ ghost use Rattle.std.specs.Prelude.{◌≡◌};
 ghost use Rattle.editlens_c.specs.Slots.{IsPut, IsEnded, is_taken};
 
 use crate::codes::{DONE, NOT_OPEN, SESSION_WORD};
-use kept_sessions::Kept;
+use embed_session::Kept;
 
 /// A word, and a session behind it if the word is the word of magic. Any other word says that nothing is open, whatever
 /// is behind it.

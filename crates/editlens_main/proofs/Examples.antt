@@ -17,8 +17,8 @@ use Rattle.edit_journal.specs.EntryJson.{not_an_edit}
 use Rattle.editlens_main.specs.Generated.{summary_lines}
 use Rattle.edit_session.specs.Step.{TripleTree}
 use Rattle.edit_session.specs.Run.{carried, no_apply, no_entry}
-use Rattle.pair_answers.specs.Answers.{answer_line, state_lines}
-use Rattle.pair_answers.specs.ItemRuns.{triple_at_first, run_of}
+use Rattle.run_answers.specs.Answers.{answer_line, state_lines}
+use Rattle.run_answers.specs.ItemRuns.{triple_at_first, run_of}
 
 -- `{a ~ b: id int}`
 abbrev ab : FormTree

@@ -7,9 +7,9 @@ use Rattle.command_words.specs.declared.orders.Order.{Order}
 use Rattle.lens_io.specs.declared.disk.Disk as OfDisk
 use Rattle.lens_io.specs.declared.sink.Sink as OfSink
 use Rattle.lens_io.specs.declared.source.Source as OfSource
-use Rattle.script_run.proofs.ScriptEndsHold.{ended_never}
-use Rattle.script_run.specs.ScriptEnds.{EveryRunStaysInStep}
-use Rattle.script_run.specs.declared.script_state.ScriptState as OfScript
+use Rattle.run_scripts.proofs.ScriptEndsHold.{ended_never}
+use Rattle.run_scripts.specs.ScriptEnds.{EveryRunStaysInStep}
+use Rattle.run_scripts.specs.declared.script_state.ScriptState as OfScript
 use Rattle.store_run.proofs.Moments.{leaves_same}
 use Rattle.store_run.proofs.Openings.{unwritten_none}
 use Rattle.store_run.specs.Devices.{Devices}

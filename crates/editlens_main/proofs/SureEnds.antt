@@ -10,12 +10,12 @@ use Rattle.lens_io.specs.declared.sink.Sink as OfSink
 use Rattle.lens_io.specs.declared.source.Source as OfSource
 use Rattle.store_new.specs.Command.{Command}
 use Rattle.store_new.specs.NewEnds.{Ends}
-use Rattle.accepted_programs.specs.Program.{IsAccepted}
+use Rattle.program_accepted.specs.Program.{IsAccepted}
 use Rattle.store_new.specs.Scripts.{IsAcceptedPart}
 use Rattle.store_new.proofs.CommandStatuses.{by_end}
-use Rattle.script_run.specs.ScriptEnds.{Stops, Reports, IsComplete}
-use Rattle.script_run.specs.declared.script_state.ScriptState as OfScript
-use Rattle.script_run.proofs.Complete.{complete}
+use Rattle.run_scripts.specs.ScriptEnds.{Stops, Reports, IsComplete}
+use Rattle.run_scripts.specs.declared.script_state.ScriptState as OfScript
+use Rattle.run_scripts.proofs.Complete.{complete}
 use Rattle.store_session.specs.StoredStates.{StoredState}
 use Rattle.store_session.specs.contracts.instance.StoreSessionStoredSession.TheImpl.{ghosts as sessions}
 use Rattle.store_undo.specs.UndoCauses.{UndoHasNoRoom, IsUndoCauseInRoom}

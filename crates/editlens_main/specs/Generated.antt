@@ -4,8 +4,8 @@ use Rattle.std.specs.Fmt.{signed_decimal}
 use Rattle.std.specs.declared.option.Option.{Option}
 use Rattle.std.specs.Io.KnownBytes.{Appends}
 use Rattle.lens_io.specs.Content.{AppendsFront}
-use Rattle.generated_run.specs.Journal.{summary_of}
-use Rattle.generated_run.specs.declared.summary.Summary.{Summary}
+use Rattle.run_gen.specs.Journal.{summary_of}
+use Rattle.run_gen.specs.declared.summary.Summary.{Summary}
 use Rattle.command_ends.specs.declared.status.Status.{Status}
 use Rattle.command_ends.specs.declared.status.Status.TheVariants.{Done, SinkFault, NoMemory}
 

@@ -1,6 +1,6 @@
 -- What `run`, `check`, `hub` and `link` promise: the same, of scripts that mean different things. What a script means
--- to each is said by an `impl`: of `PairRun` and of `TypesShown` in pair_run, of `HubRun` in hub_run, and of `LinkRun`
--- in link_run. What the report of a script is, and what holds at each status, is defined in script_run. Read it from
+-- to each is said by an `impl`: of `PairRun` and of `TypesShown` in run_pair, of `HubRun` in hub_run, and of `LinkRun`
+-- in run_link. What the report of a script is, and what holds at each status, is defined in run_scripts. Read it from
 -- the end: `Runs` and the other three, then `RunsScript`.
 use Rattle.command_ends.specs.Statuses.{IsFinished}
 use Rattle.std.specs.Prelude.{◌≤◌, length, IfSome}
@@ -9,10 +9,10 @@ use Rattle.script_input.specs.declared.limits.TheConstants.{MOST_BYTES}
 use Rattle.lens_io.specs.Calls.{SourceFailed, SinkFailed}
 use Rattle.lens_io.specs.declared.sink.Sink as OfSink
 use Rattle.lens_io.specs.declared.source.Source as OfSource
-use Rattle.link_run.specs.LinkScript.{link_script}
-use Rattle.pair_run.specs.Scripts.{pair_script, types_script}
-use Rattle.script_run.specs.ScriptEnds.{IsComplete, Reports, Stops}
-use Rattle.script_run.specs.declared.script_state.ScriptState as OfScript
+use Rattle.run_link.specs.LinkScript.{link_script}
+use Rattle.run_pair.specs.Scripts.{pair_script, types_script}
+use Rattle.run_scripts.specs.ScriptEnds.{IsComplete, Reports, Stops}
+use Rattle.run_scripts.specs.declared.script_state.ScriptState as OfScript
 use Rattle.command_ends.specs.declared.status.Status.{Status}
 
 -- What is said of a script, of its states and of what answers a line is given by `script`.

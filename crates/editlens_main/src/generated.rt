@@ -6,8 +6,8 @@ ghost use Rattle.editlens_main.specs.Generated.{WritesSummary, count_lines, list
 ghost use Rattle.editlens_main.specs.Statuses.{gen_statuses};
 
 use command_ends::Status;
-use generated_run::{Summary, generate};
 use lens_io::{Sink, give_all};
+use run_gen::{Summary, generate};
 use std::alloc::{AllocError, Global};
 
 /// Runs the generated journal of this count of entries from this seed, and writes its summary.

@@ -1,5 +1,5 @@
 //! The commands over a script: `run`, `check`, `hub` and `link`. All but `hub`, whose program part has a program for
-//! each view, are the call of script_run for what a script means to them.
+//! each view, are the call of run_scripts for what a script means to them.
 ghost use Rattle.command_ends.specs.Statuses.{IsStatusAmong, script_statuses};
 ghost use Rattle.std.specs.Prelude.{◌≡◌};
 ghost use Rattle.lens_io.specs.Calls.{SourceFailed, SinkFailed};
@@ -8,9 +8,9 @@ ghost use Rattle.editlens_main.specs.Runs.{Runs, Checks, RunsHub, RunsLink};
 use command_ends::Status;
 use hub_run::run_hub;
 use lens_io::{Sink, Source};
-use link_run::LinkRun;
-use pair_run::{PairRun, TypesShown};
-use script_run::run_script;
+use run_link::LinkRun;
+use run_pair::{PairRun, TypesShown};
+use run_scripts::run_script;
 use std::alloc::Global;
 
 /// Keeps two documents in step, by the edits of a script.

@@ -6,10 +6,10 @@ ghost use Rattle.command_words.specs.declared.orders.Order.TheVariants.{Undo, Hu
 ghost use Rattle.command_words.specs.declared.orders.Order.TheVariants as order;
 ghost use Rattle.hub_run.specs.HubScript.{hub_script};
 ghost use Rattle.script_input.specs.declared.limits.TheConstants.{MOST_BYTES};
-ghost use Rattle.link_run.specs.LinkScript.{link_script};
+ghost use Rattle.run_link.specs.LinkScript.{link_script};
 ghost use Rattle.store_new.specs.NewRooms.{ScriptHasNoRoom};
-ghost use Rattle.pair_run.specs.Scripts.{pair_script, types_script};
-ghost use Rattle.script_run.specs.ScriptEnds.{IsComplete as IsCompleteScript, Reports};
+ghost use Rattle.run_pair.specs.Scripts.{pair_script, types_script};
+ghost use Rattle.run_scripts.specs.ScriptEnds.{IsComplete as IsCompleteScript, Reports};
 ghost use Rattle.store_new.specs.Import.{import_command};
 ghost use Rattle.store_new.specs.Init.{init_command};
 ghost use Rattle.store_undo.specs.UndoCauses.{UndoHasNoRoom};

@@ -3,8 +3,8 @@ use Rattle.std.proofs.Common.{◌≡◌, inl, inr, ℕ, ◌<◌, ◌≤◌, Bool
 use Rattle.std.specs.Prelude.{nat_lt}
 use Rattle.std.proofs.lemmas.Bool.{lt-ltb, ltb-true}
 use Rattle.std.proofs.lemmas.List.{length-map}
-use Rattle.accepted_programs.specs.Program.{lens_of}
-use Rattle.accepted_programs.proofs.AcceptedForms.{accepted_typed}
+use Rattle.program_accepted.specs.Program.{lens_of}
+use Rattle.program_accepted.proofs.AcceptedForms.{accepted_typed}
 use Rattle.doc_values.specs.Types.{TyTree}
 use Rattle.lens_forms.specs.Forms.{FormTree, form_tree, left_type}
 use Rattle.lens_forms.specs.Typing.{is_typed}
@@ -28,7 +28,7 @@ use Rattle.hub_run.proofs.FoundForms.{found_view}
 use Rattle.hub_records.specs.HubLenses.{joins}
 use Rattle.hub_records.proofs.FirstHubs.{may_join}
 use Rattle.store_new.specs.ScriptReading.{ReadsFront}
-use Rattle.accepted_programs.specs.declared.program.Accepted.{Accepted}
+use Rattle.program_accepted.specs.declared.program.Accepted.{Accepted}
 use Rattle.store_new.proofs.Reading.{part_of, has_part, took_behind, within_behind, skipping_stops}
 use Rattle.hub_add.specs.AddedView.{IsAcceptedView, added_form, view_part}
 use Rattle.hub_add.specs.AddReading.{ReadsView, ReadsRefusedView}

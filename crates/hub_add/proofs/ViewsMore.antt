@@ -1,6 +1,6 @@
 -- The hub with one view more is in step, and the payloads with that of its program behind them stand for it.
 use Rattle.std.proofs.Common.{◌≡◌, ℕ, true, List, [], ◌∷◌, ◌++◌, Option, Some, None, Result, Ok, Err, sym, ap, subst, ◌∙◌}
-use Rattle.accepted_programs.specs.Program.{form_of_program}
+use Rattle.program_accepted.specs.Program.{form_of_program}
 use Rattle.edit_journal.specs.EntryJson.{tree_of_text}
 use Rattle.lens_forms.specs.Forms.{FormTree}
 use Rattle.program_terms.specs.Terms.{ProgramTree}

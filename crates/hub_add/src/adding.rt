@@ -18,13 +18,13 @@ ghost use Rattle.hub_add.specs.AddCall.{AddEnds, AddsView, EndsAdded, EndsWhole,
 ghost use Rattle.hub_add.specs.AddCall.{RefusesViewAtOnce, ViewHasNoRoom};
 
 use crate::reading::read_view;
-use accepted_programs::Accepted;
 use command_ends::Status;
 use gate_log::Log;
 use hub_new::{UnreadHub, refuse_views};
 use hub_records::added_payload;
 use hub_session::HubSession;
 use lens_io::{Disk, Sink, Source};
+use program_accepted::Accepted;
 use std::alloc::{AllocError, Global};
 use store_new::status_at;
 use store_run::{MoreText, StoredSession, open_store, refuse_store, store_last};

@@ -9,11 +9,11 @@ ghost use Rattle.hub_run.specs.RunStates.{forms_of_lenses};
 ghost use Rattle.hub_add.specs.AddedView.{IsAcceptedView, added_form};
 ghost use Rattle.hub_add.specs.AddReading.{IsUnreadView, ReadsView};
 
-use accepted_programs::Accepted;
 use hub_new::UnreadHub;
 use hub_run::{HubRefused, MOST_VIEWS, view_with_left};
 use lens_flat::Flat;
 use lens_io::{Source, TakeFault};
+use program_accepted::Accepted;
 use script_input::{Head, ProgramText, piece_buffer, read_head, skip_rest};
 use std::alloc::Global;
 

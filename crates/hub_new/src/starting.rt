@@ -22,7 +22,7 @@ use hub_records::programs_payload;
 use hub_run::{AcceptedViews, HubRefused, HubRun, refusal_line};
 use lens_io::{Disk, Payloads, Sink, Source};
 use lens_types::Typed;
-use script_run::ScriptState;
+use run_scripts::ScriptState;
 use std::alloc::{AllocError, Global};
 use store_new::{LOG_EXISTS, StoreText, give_line, make_store, status_at};
 

@@ -11,7 +11,7 @@ use Rattle.lens_forms.specs.Forms.{FormTree, left_type}
 use Rattle.lens_syntax.specs.Programs.{ProgramCause, too_long, bounded, unbounded}
 use Rattle.lens_syntax.specs.declared.reading.TheConstants.{MOST_PROGRAM_BYTES}
 use Rattle.lens_syntax.proofs.GrammarAnswers.{read_again}
-use Rattle.accepted_programs.specs.Program.{form_of_program, lens_of}
+use Rattle.program_accepted.specs.Program.{form_of_program, lens_of}
 use Rattle.program_terms.specs.Terms.{ProgramTree}
 use Rattle.program_writing.specs.Canonical.{canonical}
 use Rattle.store_records.specs.StoredLens.{accepted, form_of_text}

@@ -13,7 +13,7 @@ use Rattle.doc_values.specs.Documents.{DocTree, doc_tree}
 use Rattle.doc_values.specs.Typing.{has}
 use Rattle.value_json.specs.DocumentJson.{holds_i64s, tree_of_document}
 use Rattle.lens_core.specs.Complements.{comp_tree, Fits}
-use Rattle.form_steps.specs.LawsOfForms.{form_edits}
+use Rattle.lens_steps.specs.LawsOfForms.{form_edits}
 use Rattle.lens_flat.specs.declared.flat.ReadyForm.{ReadyForm}
 use Rattle.lens_forms.specs.Forms.{FormTree, form_tree, left_type, right_type}
 use Rattle.view_hub.specs.Hubs.{ViewTree, HubTree}

@@ -16,14 +16,14 @@ use Rattle.edit_inverse.proofs.Constructs.{construct-law}
 use Rattle.edit_journal.specs.EntryJson.{tree_of_text}
 use Rattle.edit_module.specs.Action.{act}
 use Rattle.edit_module.specs.Words.{WordTree}
-use Rattle.form_steps.specs.LawsOfForms.{form_starts, form_edits}
+use Rattle.lens_steps.specs.LawsOfForms.{form_starts, form_edits}
 use Rattle.lens_core.proofs.LawsOfWords.{consistent_is_typed}
 use Rattle.lens_forms.specs.Forms.{FormTree, left_type}
 use Rattle.lens_forms.specs.Typing.{is_typed}
 use Rattle.lens_forms.proofs.TypingLaws.{left_formed}
 use Rattle.lens_syntax.specs.Programs.{unbounded}
-use Rattle.accepted_programs.specs.Program.{Refusal, form_of_program}
-use Rattle.accepted_programs.proofs.AcceptedForms.{result_typed}
+use Rattle.program_accepted.specs.Program.{Refusal, form_of_program}
+use Rattle.program_accepted.proofs.AcceptedForms.{result_typed}
 use Rattle.store_records.specs.StoredLens.{accepted, form_of_text}
 use Rattle.store_records.specs.declared.record_fault.RecordFault.{RecordFault}
 use Rattle.store_records.specs.declared.record_fault.RecordFault.TheVariants.{NotConsistent}

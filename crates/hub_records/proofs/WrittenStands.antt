@@ -14,7 +14,7 @@ use Rattle.program_terms.specs.Terms.{ProgramTree}
 use Rattle.program_writing.specs.Canonical.{canonical}
 use Rattle.lens_syntax.specs.Programs.{unbounded}
 use Rattle.lens_syntax.proofs.GrammarAnswers.{read_again}
-use Rattle.accepted_programs.specs.Program.{form_of_program}
+use Rattle.program_accepted.specs.Program.{form_of_program}
 use Rattle.store_records.specs.StoredLens.{accepted, form_of_text}
 use Rattle.store_records.specs.declared.record_fault.RecordFault.TheVariants.{NotConsistent}
 use Rattle.store_records.proofs.ComplementsAreRead.{read_back}

@@ -13,7 +13,7 @@ ghost use Rattle.lens_forms.specs.Forms.{FormTree};
 ghost use Rattle.program_terms.specs.Terms.{ProgramTree};
 ghost use Rattle.program_writing.specs.Canonical.{canonical};
 ghost use Rattle.lens_syntax.specs.Programs.{unbounded};
-ghost use Rattle.accepted_programs.specs.Program.{form_of_program};
+ghost use Rattle.program_accepted.specs.Program.{form_of_program};
 ghost use Rattle.view_hub.specs.Hubs.{HubTree, CarriedTree};
 ghost use Rattle.view_hub.specs.Laws.{IsHub};
 ghost use Rattle.hub_run.specs.FormLenses.{form_lens};

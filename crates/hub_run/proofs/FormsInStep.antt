@@ -9,10 +9,10 @@ use Rattle.edit_journal.specs.declared.line.Line.{Line}
 use Rattle.lens_forms.specs.Forms.{FormTree, left_type}
 use Rattle.lens_forms.specs.Typing.{is_typed}
 use Rattle.lens_core.specs.declared.lens.EditLens as OfLens
-use Rattle.form_steps.specs.LawsOfForms.{form_starts, form_edits}
-use Rattle.script_run.specs.Answers.{Answer}
-use Rattle.script_run.specs.ScriptEnds.{EveryRunStaysInStep}
-use Rattle.script_run.proofs.StepsStay.{every_run}
+use Rattle.lens_steps.specs.LawsOfForms.{form_starts, form_edits}
+use Rattle.run_scripts.specs.Answers.{Answer}
+use Rattle.run_scripts.specs.ScriptEnds.{EveryRunStaysInStep}
+use Rattle.run_scripts.proofs.StepsStay.{every_run}
 use Rattle.view_hub.specs.Hubs.{ViewTree, HubTree, first_view}
 use Rattle.view_hub.specs.Laws.{AllInStep, SameLeft, HaveOneLeftType, IsHub}
 use Rattle.view_hub.proofs.HubSteps.{starts}

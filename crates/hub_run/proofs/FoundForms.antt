@@ -5,8 +5,8 @@ use Rattle.doc_values.specs.Types.{TyTree, is_same_ty}
 use Rattle.doc_values.proofs.SameTypes.{is_same_ty-equal}
 use Rattle.lens_forms.specs.Forms.{FormTree, left_type}
 use Rattle.lens_forms.specs.Typing.{is_typed}
-use Rattle.accepted_programs.specs.Program.{Refusal, lens_of}
-use Rattle.accepted_programs.proofs.AcceptedForms.{accepted_typed}
+use Rattle.program_accepted.specs.Program.{Refusal, lens_of}
+use Rattle.program_accepted.proofs.AcceptedForms.{accepted_typed}
 use Rattle.view_hub.specs.Laws.{SameLeft, HaveOneLeftType}
 use Rattle.hub_run.specs.FormLenses.{form_lens}
 use Rattle.hub_run.specs.FoundLenses.{AllTyped, HasLeft}

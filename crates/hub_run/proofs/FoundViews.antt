@@ -6,10 +6,10 @@ use Rattle.lens_syntax.specs.declared.fault.ProgramFault.{ProgramFault}
 use Rattle.lens_types.specs.declared.fault.TypeFault.{TypeFault}
 use Rattle.answer_text.specs.Lines.{program_refused_line}
 use Rattle.answer_text.specs.RefusalLines.{IsLineOf, reason}
-use Rattle.accepted_programs.specs.Program.{Refusal, syntax, typing}
-use Rattle.accepted_programs.specs.Refused.{IsProgramRefusal}
-use Rattle.accepted_programs.specs.declared.program.Refused.{Refused}
-use Rattle.accepted_programs.specs.declared.program.Refused.TheVariants.{Syntax, Typing}
+use Rattle.program_accepted.specs.Program.{Refusal, syntax, typing}
+use Rattle.program_accepted.specs.Refused.{IsProgramRefusal}
+use Rattle.program_accepted.specs.declared.program.Refused.{Refused}
+use Rattle.program_accepted.specs.declared.program.Refused.TheVariants.{Syntax, Typing}
 use Rattle.hub_run.specs.Lenses.{HubRefusal, in_view, view_with, view_reason, hub_refusal_line}
 use Rattle.hub_run.specs.FoundLenses.{IsRefusalOf}
 use Rattle.hub_run.specs.declared.views.HubRefused.{HubRefused}

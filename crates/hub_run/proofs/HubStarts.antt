@@ -4,9 +4,9 @@ use Rattle.std.specs.Prelude.{◌≢◌, IfOk, MatchResult}
 use Rattle.doc_values.specs.Types.{TyTree}
 use Rattle.lens_flat.specs.declared.flat.ReadyForm.{ReadyForm}
 use Rattle.lens_forms.specs.Forms.{FormTree, form_tree, left_type}
-use Rattle.script_run.specs.ScriptSteps.{IsRefusedWith, Opens}
-use Rattle.script_run.specs.declared.script_state.NotOpened.{NotOpened}
-use Rattle.script_run.specs.declared.script_state.NotOpened.TheVariants as opening
+use Rattle.run_scripts.specs.ScriptSteps.{IsRefusedWith, Opens}
+use Rattle.run_scripts.specs.declared.script_state.NotOpened.{NotOpened}
+use Rattle.run_scripts.specs.declared.script_state.NotOpened.TheVariants as opening
 use Rattle.view_hub.specs.Hubs.{HubTree, start_hub, first_hub}
 use Rattle.view_hub.specs.Laws.{SameLeft, HaveOneLeftType}
 use Rattle.view_hub.specs.Views.{HubOf, hub_tree}

@@ -1,8 +1,8 @@
 -- A view that is read: its program, and its lens behind the left type that is wanted.
 use Rattle.std.proofs.Common.{◌≡◌, ℕ, List, Option, None, Result, Ok, Err, sym, ap, subst, ◌∙◌}
 use Rattle.std.specs.Prelude.{MatchResult}
-use Rattle.accepted_programs.specs.Program.{IsAccepted}
-use Rattle.accepted_programs.specs.declared.program.Accepted.{Accepted}
+use Rattle.program_accepted.specs.Program.{IsAccepted}
+use Rattle.program_accepted.specs.declared.program.Accepted.{Accepted}
 use Rattle.doc_values.specs.Types.{TyTree}
 use Rattle.lens_forms.specs.Forms.{form_tree}
 use Rattle.program_terms.specs.Views.{program_tree}

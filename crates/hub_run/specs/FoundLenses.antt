@@ -3,8 +3,8 @@ use Rattle.std.specs.Prelude.{◌≡◌, IsTrue, List, [], ◌∷◌, Option, No
 use Rattle.doc_values.specs.Types.{TyTree}
 use Rattle.lens_forms.specs.Forms.{FormTree, left_type}
 use Rattle.lens_forms.specs.Typing.{is_typed}
-use Rattle.accepted_programs.specs.Program.{Refusal}
-use Rattle.accepted_programs.specs.Refused.{IsProgramRefusal, IsKnown}
+use Rattle.program_accepted.specs.Program.{Refusal}
+use Rattle.program_accepted.specs.Refused.{IsProgramRefusal, IsKnown}
 use Rattle.hub_run.specs.Lenses.{HubRefusal, too_many_views, in_view, views_differ}
 use Rattle.hub_run.specs.declared.views.HubRefused.{HubRefused}
 use Rattle.hub_run.specs.declared.views.HubRefused.TheVariants.{TooManyViews, InView, ViewsDiffer, NoMemory}

@@ -2,7 +2,7 @@
 use Rattle.std.specs.Prelude.{List}
 use Rattle.lens_flat.specs.declared.flat.ReadyForm.{ReadyForm}
 use Rattle.lens_forms.specs.Forms.{FormTree}
-use Rattle.script_run.specs.declared.script_state.ScriptState as OfScript
+use Rattle.run_scripts.specs.declared.script_state.ScriptState as OfScript
 use Rattle.view_hub.specs.Views.{HubOf}
 use Rattle.hub_run.specs.Lenses.{HubRefusal, lenses_of, hub_refusal_line}
 use Rattle.hub_run.specs.RunStates.{hub_state_of}

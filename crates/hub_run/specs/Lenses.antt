@@ -4,7 +4,7 @@ use Rattle.std.specs.Prelude.{ℕ, List, [], ◌∷◌, ◌++◌, length, Option
 use Rattle.std.specs.Prelude.{nat_lt, codes, decimal}
 use Rattle.doc_values.specs.Types.{TyTree, is_same_ty}
 use Rattle.lens_forms.specs.Forms.{FormTree, left_type}
-use Rattle.accepted_programs.specs.Program.{Refusal, lens_of}
+use Rattle.program_accepted.specs.Program.{Refusal, lens_of}
 use Rattle.answer_text.specs.Lines.{program_refused_line}
 use Rattle.answer_text.specs.RefusalLines.{reason}
 use Rattle.hub_run.specs.Pieces.{pieces}

@@ -1,5 +1,5 @@
 -- The run of a hub over the lines of a journal, and the lines of its last state. The run over lines is `run_lines` of
--- script_run, from the state and the answer that are defined here.
+-- run_scripts, from the state and the answer that are defined here.
 -- Read it from the end: `IsHubInStep`, `first_state`, `hub_answer`, then `hub_state_text`.
 use Rattle.std.specs.Prelude.{◌≡◌, ℕ, ◌+◌, List, [], ◌∷◌, ◌++◌, slice_get, Option, Some, option_map, Result, Ok, Err}
 use Rattle.std.specs.Prelude.{codes, decimal}
@@ -13,7 +13,7 @@ use Rattle.lens_forms.specs.Forms.{FormTree, left_type, right_type}
 use Rattle.lens_core.specs.Complements.{CompTree}
 use Rattle.lens_core.specs.declared.lens.EditLens as OfLens
 use Rattle.answer_text.specs.Lines.{tree_line}
-use Rattle.script_run.specs.Answers.{Answer}
+use Rattle.run_scripts.specs.Answers.{Answer}
 use Rattle.view_hub.specs.Hubs as hubs
 use Rattle.view_hub.specs.Hubs.{ViewTree, HubTree, Place, CarriedTree, hub_step, first_hub}
 use Rattle.view_hub.specs.Laws.{IsHub}

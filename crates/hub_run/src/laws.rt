@@ -4,7 +4,7 @@
 ghost use Rattle.std.specs.Prelude.{◌≡◌, ◌++◌, ◌∷◌, [], List, ℕ, true, if◌then◌else◌};
 ghost use Rattle.edit_journal.specs.Pieces.{has_no_end};
 ghost use Rattle.script_input.specs.Lines.{cut};
-ghost use Rattle.script_run.specs.ScriptEnds.{EveryRunStaysInStep};
+ghost use Rattle.run_scripts.specs.ScriptEnds.{EveryRunStaysInStep};
 ghost use Rattle.hub_run.specs.HubScript.{hub_script};
 ghost use Rattle.hub_run.specs.Pieces.{is_cut, pieces_from};
 

@@ -2,7 +2,7 @@
 //!
 //! [`run_hub`] is the main call: it reads a script, whose program part is the views' programs, and answers its journal.
 //! [`Pieces`] is the program part, cut into the program of each view, with the lenses of the views or why it is
-//! refused. [`HubRun`] is the hub that answers the journal, over `script_run`. [`read_hub_edit`] reads a line of the
+//! refused. [`HubRun`] is the hub that answers the journal, over `run_scripts`. [`read_hub_edit`] reads a line of the
 //! journal.
 //!
 //! specs/Pieces.antt and specs/Lenses.antt define the program part, specs/EditJson.antt the lines of the journal,

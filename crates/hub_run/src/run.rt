@@ -2,8 +2,8 @@
 
 ghost use Rattle.std.specs.Prelude.{◌≡◌, ℕ, List, map, IfOk, OnErr, MatchResult};
 ghost use Rattle.lens_forms.specs.Forms.{form_tree};
-ghost use Rattle.script_run.specs.Answers.{AddsAnswer};
-ghost use Rattle.script_run.specs.ScriptSteps.{Opens, IsNotOpened};
+ghost use Rattle.run_scripts.specs.Answers.{AddsAnswer};
+ghost use Rattle.run_scripts.specs.ScriptSteps.{Opens, IsNotOpened};
 ghost use Rattle.view_hub.specs.Laws.{HaveOneLeftType};
 ghost use Rattle.view_hub.specs.Views.{hub_tree};
 ghost use Rattle.hub_run.specs.FormLenses.{form_lens};
@@ -22,7 +22,7 @@ use crate::views::{HubRefused, refusal_line};
 use edit_journal::Line;
 use lens_flat::Flat;
 use lens_types::Typed;
-use script_run::{NotOpened, ScriptState};
+use run_scripts::{NotOpened, ScriptState};
 use std::alloc::{AllocError, Global};
 use std::marker::Model;
 use texts::Bytes;

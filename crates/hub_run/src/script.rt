@@ -4,15 +4,15 @@ ghost use Rattle.command_ends.specs.Statuses.{IsStatusAmong, script_statuses};
 ghost use Rattle.std.specs.Prelude.{◌≡◌, ◌≤◌, IfSome, length};
 ghost use Rattle.lens_io.specs.Calls.{SourceFailed, SinkFailed};
 ghost use Rattle.script_input.specs.declared.limits.TheConstants.{MOST_BYTES};
-ghost use Rattle.script_run.specs.ScriptEnds.{Ended, IsComplete};
+ghost use Rattle.run_scripts.specs.ScriptEnds.{Ended, IsComplete};
 ghost use Rattle.hub_run.specs.HubScript.{hub_script};
 
 use crate::head::{HubHead, read_hub_head};
 use crate::run::HubRun;
 use command_ends::Status;
 use lens_io::{Sink, Source};
+use run_scripts::{Stopped, answer_alone, answer_part};
 use script_input::piece_buffer;
-use script_run::{Stopped, answer_alone, answer_part};
 use std::alloc::Global;
 
 /// Runs the script of a hub, with its input and its output.

@@ -5,8 +5,8 @@ ghost use Rattle.std.specs.Prelude.{Err, None, Some, codes, length, map};
 ghost use Rattle.doc_values.specs.Types.{TyTree, ty_tree};
 ghost use Rattle.lens_forms.specs.Forms.{FormTree, form_tree};
 ghost use Rattle.view_hub.specs.Laws.{HaveOneLeftType};
-ghost use Rattle.accepted_programs.specs.Refused.{IsKnown, IsProgramRefusal};
-ghost use Rattle.accepted_programs.specs.Program.{Refusal};
+ghost use Rattle.program_accepted.specs.Refused.{IsKnown, IsProgramRefusal};
+ghost use Rattle.program_accepted.specs.Program.{Refusal};
 ghost use Rattle.answer_text.specs.Lines.{program_refused_line};
 ghost use Rattle.program_terms.specs.Views.{program_tree};
 ghost use Rattle.script_input.specs.Parts.{HoldsPart};
@@ -19,11 +19,11 @@ ghost use Rattle.hub_run.specs.FoundLenses.{IsRefusalOf, IsRefusedHub, HasRefusa
 ghost use Rattle.hub_run.specs.PiecePrograms.{AreViews, IsViewOf};
 
 use crate::pieces::Pieces;
-use accepted_programs::{Accepted, Refused};
 use answer_text::{program_refused_line, refused_part_line};
 use doc_values::Ty;
 use lens_syntax::Program;
 use lens_types::Typed;
+use program_accepted::{Accepted, Refused};
 use script_input::{ProgramText, accepted_part};
 use std::alloc::{AllocError, AllocFailed, Global};
 use texts::Bytes;
@@ -98,7 +98,7 @@ impl Pieces {
     ///
     /// - `TooManyViews`: if and only if there are more than 64 pieces.
     /// - Then, for each piece in order, `InView`: if and only if its program is refused, with the number of the view
-    ///   and the cause that `read_lens` of accepted_programs has; a piece of more than 65,536 bytes is too long.
+    ///   and the cause that `read_lens` of program_accepted has; a piece of more than 65,536 bytes is too long.
     /// - For the same piece after that, `ViewsDiffer`: if and only if its left type is not the same as view 0's.
     ///
     /// `NoMemory` says nothing of the program part.
@@ -161,7 +161,7 @@ fn first_view(alloc: Global, piece: &ProgramText) -> Result<Accepted, HubRefused
 /// is refused by the first of these:
 ///
 /// - `InView`: if and only if its program is refused, with the number of the view and the cause that `read_lens` of
-///   accepted_programs has; a piece of more than 65,536 bytes is too long.
+///   program_accepted has; a piece of more than 65,536 bytes is too long.
 /// - `ViewsDiffer`: if and only if its left type is another.
 ///
 /// `NoMemory` says nothing of the piece.

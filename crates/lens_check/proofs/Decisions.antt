@@ -11,14 +11,14 @@ use Rattle.lens_forms.specs.Typing.{is_typed}
 use Rattle.lens_core.specs.Sides.{type_on}
 use Rattle.lens_core.specs.Complements.{CompTree, Fits}
 use Rattle.lens_core.specs.Consistency.{IsConsistent}
-use Rattle.image_laws.specs.Patterns.{PatternTree, Matches, is_of_type, pattern_of, pattern_tree}
-use Rattle.image_laws.specs.Image.{image}
-use Rattle.image_laws.specs.declared.pattern.Pattern.{Pattern}
-use Rattle.image_laws.specs.ImageLaws.{IsExactImage}
-use Rattle.image_laws.proofs.ExactImages.{decides_consistency, images_are_exact}
-use Rattle.image_laws.proofs.TypedPatterns.{match_self, pattern_typed}
+use Rattle.law_images.specs.Patterns.{PatternTree, Matches, is_of_type, pattern_of, pattern_tree}
+use Rattle.law_images.specs.Image.{image}
+use Rattle.law_images.specs.declared.pattern.Pattern.{Pattern}
+use Rattle.law_images.specs.ImageLaws.{IsExactImage}
+use Rattle.law_images.proofs.ExactImages.{decides_consistency, images_are_exact}
+use Rattle.law_images.proofs.TypedPatterns.{match_self, pattern_typed}
 use Rattle.lens_check.specs.TypedTriples.{AreTyped}
-use Rattle.image_laws.proofs.PatternsOfItems.{same_pattern}
+use Rattle.law_images.proofs.PatternsOfItems.{same_pattern}
 
 -- the three tests
 pub typed_test : (a f b : Bool) (l : FormTree) (x : DocTree) (c : CompTree) (y : DocTree) → a ≡ has (left_type l) x → (IsTrue f ↔ Fits l c) → b ≡ has (right_type l) y

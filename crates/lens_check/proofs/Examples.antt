@@ -8,8 +8,8 @@ use Rattle.doc_values.specs.Types.{TyTree, ty_int, ty_text, ty_list, no_fields, 
 use Rattle.doc_values.specs.Typing.{has}
 use Rattle.lens_forms.specs.Forms.{FormTree, form_id, form_bij, form_disc, form_then, form_rec, form_each, form_part, form_inv, no_rows, both, left_type, right_type}
 use Rattle.lens_core.specs.Complements.{CompTree, nil, then_comp, rec_comp, hold_comp, tags_comp, no_comps, more_comps}
-use Rattle.image_laws.specs.Patterns.{PatternTree, pattern_of}
-use Rattle.image_laws.specs.Image.{image}
+use Rattle.law_images.specs.Patterns.{PatternTree, pattern_of}
+use Rattle.law_images.specs.Image.{image}
 use Rattle.lens_check.specs.FitTest.{fits}
 use Rattle.lens_check.specs.MatchTest.{is_match}
 

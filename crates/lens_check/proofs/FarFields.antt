@@ -18,9 +18,9 @@ use Rattle.lens_forms.proofs.TreesOfRows.{row_tree-both, rows_from, next_both, n
 use Rattle.lens_core.specs.Complements.{nil, rec_comp, CompTrees, no_comps, more_comps, comps_of, comp_list, comp_count}
 use Rattle.lens_core.specs.Sides.{near, far, fields_on, names_on}
 use Rattle.lens_core.proofs.ComplementTrees.{comps_of-comp_list, comp_count-length}
-use Rattle.image_laws.specs.Image.{image, image_rows, with_named, named, patterns_by_name}
-use Rattle.image_laws.specs.Patterns.{PatternTree, hole, rec_pattern, patterns_from, pattern_list, in_order}
-use Rattle.image_laws.proofs.PatternLists.{patterns_from-pattern_list}
+use Rattle.law_images.specs.Image.{image, image_rows, with_named, named, patterns_by_name}
+use Rattle.law_images.specs.Patterns.{PatternTree, hole, rec_pattern, patterns_from, pattern_list, in_order}
+use Rattle.law_images.proofs.PatternLists.{patterns_from-pattern_list}
 use Rattle.lens_check.specs.ImageParts.{place_among, if_far}
 use Rattle.lens_check.specs.ReadyComplements.{IsReady, AreReadyRows}
 use Rattle.lens_check.proofs.SortedNames.{insert_name, sort_names, put_names, put_sorted, insert-place, insert-place-name}

@@ -14,12 +14,12 @@ use Rattle.lens_forms.specs.declared.form.FormRow.{FormRow}
 use Rattle.lens_forms.proofs.SortedFields.{inserted, inserted_names}
 use Rattle.lens_core.proofs.LawsOfLeaves.{differs_back}
 use Rattle.lens_core.specs.Sides.{fields_on, names_on}
-use Rattle.image_laws.specs.Image.{pattern_at, patterns_by_name}
-use Rattle.image_laws.specs.Patterns.{PatternTree, hole, unit_pattern, truth_pattern, int_pattern, text_pattern, pick_pattern, rec_pattern, alt_pattern, hold_pattern, PatternTrees, no_patterns, more_patterns, pattern_list, pattern_count, pattern_tree, patterns_tree}
-use Rattle.image_laws.specs.declared.pattern.Pattern.{Pattern, the_lemmas as pattern_lemmas}
-use Rattle.image_laws.specs.declared.pattern.Pattern.TheVariants.{Rec}
-use Rattle.image_laws.specs.declared.pattern.Patterns.{Patterns}
-use Rattle.image_laws.proofs.PatternLists.{pattern_count-length}
+use Rattle.law_images.specs.Image.{pattern_at, patterns_by_name}
+use Rattle.law_images.specs.Patterns.{PatternTree, hole, unit_pattern, truth_pattern, int_pattern, text_pattern, pick_pattern, rec_pattern, alt_pattern, hold_pattern, PatternTrees, no_patterns, more_patterns, pattern_list, pattern_count, pattern_tree, patterns_tree}
+use Rattle.law_images.specs.declared.pattern.Pattern.{Pattern, the_lemmas as pattern_lemmas}
+use Rattle.law_images.specs.declared.pattern.Pattern.TheVariants.{Rec}
+use Rattle.law_images.specs.declared.pattern.Patterns.{Patterns}
+use Rattle.law_images.proofs.PatternLists.{pattern_count-length}
 use Rattle.lens_check.specs.ImageParts.{place_among, field_pattern, has_field_before}
 use Rattle.lens_check.proofs.SortedNames.{insert_name, sort_names, one_before, rank-insert, rank-first, before_member}
 use Rattle.texts.proofs.Tests.{bytes_eq-is}

@@ -6,14 +6,14 @@ use Rattle.std.proofs.lemmas.Bool.{eq-eqb, eqb-true}
 use Rattle.texts.proofs.Conjunction.{first as first_and, second as second_and}
 use Rattle.hold_shapes.specs.declared.shape.Shape.{Shape}
 use Rattle.lens_core.specs.Complements.{CompTree, nil, hold_comp, CompTrees, no_comps, more_comps, comp_list, comp_count, AllFit}
-use Rattle.image_laws.specs.Image.{is_same_shape, patterns_in_shape, image_each, image_held}
-use Rattle.image_laws.specs.PartImage.{holes}
-use Rattle.image_laws.specs.Patterns.{PatternTree, hole, unit_pattern, truth_pattern, int_pattern, text_pattern, pick_pattern, rec_pattern, alt_pattern, hold_pattern, PatternTrees, no_patterns, more_patterns, patterns_from, pattern_list, pattern_count, pattern_tree, patterns_tree}
-use Rattle.image_laws.specs.declared.pattern.Pattern.{Pattern, the_lemmas as pattern_lemmas}
-use Rattle.image_laws.specs.declared.pattern.Pattern.TheVariants.{Hold}
-use Rattle.image_laws.specs.declared.pattern.Patterns.{Patterns}
-use Rattle.image_laws.proofs.ImagesOfContainers.{shape_same, shapes_are}
-use Rattle.image_laws.proofs.PatternLists.{pattern_count-length}
+use Rattle.law_images.specs.Image.{is_same_shape, patterns_in_shape, image_each, image_held}
+use Rattle.law_images.specs.PartImage.{holes}
+use Rattle.law_images.specs.Patterns.{PatternTree, hole, unit_pattern, truth_pattern, int_pattern, text_pattern, pick_pattern, rec_pattern, alt_pattern, hold_pattern, PatternTrees, no_patterns, more_patterns, patterns_from, pattern_list, pattern_count, pattern_tree, patterns_tree}
+use Rattle.law_images.specs.declared.pattern.Pattern.{Pattern, the_lemmas as pattern_lemmas}
+use Rattle.law_images.specs.declared.pattern.Pattern.TheVariants.{Hold}
+use Rattle.law_images.specs.declared.pattern.Patterns.{Patterns}
+use Rattle.law_images.proofs.ImagesOfContainers.{shape_same, shapes_are}
+use Rattle.law_images.proofs.PatternLists.{pattern_count-length}
 use Rattle.lens_check.specs.ImageParts.{has_shape, HasPlace, place_pattern}
 
 -- ---- shapes

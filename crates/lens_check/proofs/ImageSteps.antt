@@ -19,12 +19,12 @@ use Rattle.lens_forms.proofs.TreesOfRows.{rows_from}
 use Rattle.lens_core.specs.Complements.{CompTree, nil, then_comp, rec_comp, alt_comp, hold_comp, CompTrees, comp_list, comp_count}
 use Rattle.lens_core.specs.Sides.{near, far, fields_on, names_on}
 use Rattle.lens_core.proofs.ComplementTrees.{comps_of-comp_list, comp_count-length, comp_tree-then, comp_tree-rec, comp_tree-alt, comp_tree-hold}
-use Rattle.image_laws.specs.Image.{image, image_arm, arm_pattern, image_held, image_rows, patterns_by_name}
-use Rattle.image_laws.specs.PartImage.{content_pattern}
-use Rattle.image_laws.specs.Patterns.{PatternTree, hole, unit_pattern, truth_pattern, int_pattern, text_pattern, pick_pattern, rec_pattern, alt_pattern, hold_pattern, patterns_from, pattern_tree, patterns_tree}
-use Rattle.image_laws.specs.declared.pattern.Pattern.{Pattern, the_lemmas as pattern_lemmas}
-use Rattle.image_laws.specs.declared.pattern.Pattern.TheVariants.{Hole, Rec as RecPattern}
-use Rattle.image_laws.specs.declared.pattern.Patterns.{Patterns}
+use Rattle.law_images.specs.Image.{image, image_arm, arm_pattern, image_held, image_rows, patterns_by_name}
+use Rattle.law_images.specs.PartImage.{content_pattern}
+use Rattle.law_images.specs.Patterns.{PatternTree, hole, unit_pattern, truth_pattern, int_pattern, text_pattern, pick_pattern, rec_pattern, alt_pattern, hold_pattern, patterns_from, pattern_tree, patterns_tree}
+use Rattle.law_images.specs.declared.pattern.Pattern.{Pattern, the_lemmas as pattern_lemmas}
+use Rattle.law_images.specs.declared.pattern.Pattern.TheVariants.{Hole, Rec as RecPattern}
+use Rattle.law_images.specs.declared.pattern.Patterns.{Patterns}
 use Rattle.lens_check.specs.ImageParts.{first_arm, has_shape, place_pattern, place_among, if_far}
 use Rattle.lens_check.specs.ReadyComplements.{IsReady, AreReadyPlaces, AreReadyRows, IsReadyArm, Chosen}
 use Rattle.lens_check.proofs.FarFields.{near_among, placed, still_placed, comps_from, placed_end, placed_start, record_is, ready_both, ready_left, ready_right, placed_both, placed_none, placed_short, placed_left, placed_right}

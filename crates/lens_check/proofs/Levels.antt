@@ -1,7 +1,7 @@
 -- How many levels patterns and documents have, which falls with each part: what the recursions over them go by.
 use Rattle.std.proofs.Common.{◌≡◌, ℕ, zero, suc, ◌+◌, ◌<◌, ◌≤◌, length, get_or, ap, arith}
 use Rattle.doc_values.specs.Documents.{DocTree, rec, alt, hold, DocTrees, no_docs, more_docs, doc_list}
-use Rattle.image_laws.specs.Patterns.{PatternTree, rec_pattern, alt_pattern, hold_pattern, PatternTrees, no_patterns, more_patterns, pattern_list, pattern_count}
+use Rattle.law_images.specs.Patterns.{PatternTree, rec_pattern, alt_pattern, hold_pattern, PatternTrees, no_patterns, more_patterns, pattern_list, pattern_count}
 
 abbrev mutual
   pub pattern_levels : PatternTree → ℕ

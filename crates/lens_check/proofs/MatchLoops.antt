@@ -3,8 +3,8 @@ use Rattle.std.proofs.Common.{◌≡◌, ℕ, suc, ◌+◌, ◌<◌, ◌≤◌, 
 use Rattle.std.proofs.lemmas.List.{drop_all}
 use Rattle.doc_values.specs.Documents.{DocTree, DocTrees, docs_of, doc_list}
 use Rattle.doc_values.proofs.Lists.{docs_of-doc_list}
-use Rattle.image_laws.specs.Patterns.{PatternTree, PatternTrees, patterns_from, pattern_list, pattern_count}
-use Rattle.image_laws.proofs.PatternLists.{patterns_from-pattern_list, pattern_count-length}
+use Rattle.law_images.specs.Patterns.{PatternTree, PatternTrees, patterns_from, pattern_list, pattern_count}
+use Rattle.law_images.proofs.PatternLists.{patterns_from-pattern_list, pattern_count-length}
 use Rattle.lens_check.specs.MatchTest.{is_match, match_each}
 use Rattle.texts.proofs.Tests.{and_false}
 

@@ -6,9 +6,9 @@ use Rattle.std.proofs.lemmas.Slice.Eq.{bytes_eq-Decides}
 use Rattle.texts.proofs.Conjunction.{first, second, both}
 use Rattle.hold_shapes.specs.declared.shape.Shape.{Shape}
 use Rattle.doc_values.specs.Documents.{DocTree, unit, truth, int, text, pick, rec, alt, hold, DocTrees, no_docs, more_docs}
-use Rattle.image_laws.specs.Patterns.{PatternTree, hole, unit_pattern, truth_pattern, int_pattern, text_pattern, pick_pattern, rec_pattern, alt_pattern, hold_pattern, PatternTrees, no_patterns, more_patterns, Matches, MatchEach}
-use Rattle.image_laws.specs.Image.{is_same_shape}
-use Rattle.image_laws.proofs.ImagesOfContainers.{shape_same, shapes_are}
+use Rattle.law_images.specs.Patterns.{PatternTree, hole, unit_pattern, truth_pattern, int_pattern, text_pattern, pick_pattern, rec_pattern, alt_pattern, hold_pattern, PatternTrees, no_patterns, more_patterns, Matches, MatchEach}
+use Rattle.law_images.specs.Image.{is_same_shape}
+use Rattle.law_images.proofs.ImagesOfContainers.{shape_same, shapes_are}
 use Rattle.lens_check.specs.MatchTest.{is_same_truth, is_match, match_each}
 
 truth_same : (b : Bool) → is_same_truth b b ≡ true

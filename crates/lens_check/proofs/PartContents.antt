@@ -11,11 +11,11 @@ use Rattle.doc_values.specs.Typing.{is_list_of}
 use Rattle.tag_seq.specs.Tags.{count}
 use Rattle.lens_core.specs.Tags.{tag_count, tag_number, tag_name}
 use Rattle.lens_core.proofs.Tags.{tag_name-at}
-use Rattle.image_laws.specs.declared.pattern.Pattern.{Pattern}
-use Rattle.image_laws.specs.Patterns.{PatternTree, hole, unit_pattern, truth_pattern, int_pattern, text_pattern, pick_pattern, rec_pattern, alt_pattern, hold_pattern, PatternTrees, no_patterns, more_patterns, pattern_count, pattern_list, patterns_from, pattern_tree, in_order}
-use Rattle.image_laws.specs.PartImage.{content_pattern, content_patterns, patterns_at, list_pattern, list_at, holes, patterns_in_list, parted_image}
-use Rattle.image_laws.proofs.PatternsOfItems.{count_holes}
-use Rattle.image_laws.proofs.PatternLists.{patterns_from-pattern_list, pattern_count-length}
+use Rattle.law_images.specs.declared.pattern.Pattern.{Pattern}
+use Rattle.law_images.specs.Patterns.{PatternTree, hole, unit_pattern, truth_pattern, int_pattern, text_pattern, pick_pattern, rec_pattern, alt_pattern, hold_pattern, PatternTrees, no_patterns, more_patterns, pattern_count, pattern_list, patterns_from, pattern_tree, in_order}
+use Rattle.law_images.specs.PartImage.{content_pattern, content_patterns, patterns_at, list_pattern, list_at, holes, patterns_in_list, parted_image}
+use Rattle.law_images.proofs.PatternsOfItems.{count_holes}
+use Rattle.law_images.proofs.PatternLists.{patterns_from-pattern_list, pattern_count-length}
 use Rattle.lens_check.specs.PartLists.{trees_in, with_content, lists_by_tag, list_at_tag, list_of}
 use Rattle.lens_check.proofs.PartNames.{in_order-names}
 use Rattle.lens_core.proofs.TagNumbers.{tag-below}

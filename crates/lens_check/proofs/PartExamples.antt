@@ -2,7 +2,7 @@
 use Rattle.std.proofs.Common.{◌≡◌, refl, [], ◌∷◌, Some, None}
 use Rattle.std.specs.Prelude.{codes, pos, ℕ, List}
 use Rattle.doc_values.specs.Types.{FieldTrees, ty_int, ty_text, no_fields, more_fields}
-use Rattle.image_laws.specs.Patterns.{hole, int_pattern, rec_pattern, alt_pattern, PatternTree, no_patterns, more_patterns}
+use Rattle.law_images.specs.Patterns.{hole, int_pattern, rec_pattern, alt_pattern, PatternTree, no_patterns, more_patterns}
 use Rattle.lens_check.specs.PartLists.{place_of, field_pattern, with_content, lists_by_tag, list_at_tag, list_of, tag_lists, item_at}
 
 -- part <p: text, o: int>, with an item p between two items o

@@ -11,11 +11,11 @@ use Rattle.tag_seq.specs.Tags.{count, rank}
 use Rattle.lens_forms.specs.Forms.{sorted, lists_of}
 use Rattle.lens_core.specs.Tags.{tag_count, tag_name}
 use Rattle.lens_core.proofs.Tags.{tag_name-at}
-use Rattle.image_laws.specs.declared.pattern.Pattern.{Pattern}
-use Rattle.image_laws.specs.declared.pattern.Patterns.{Patterns}
-use Rattle.image_laws.specs.Patterns.{PatternTree, hole, alt_pattern, PatternTrees, no_patterns, more_patterns, patterns_from, pattern_list, pattern_tree, patterns_tree}
-use Rattle.image_laws.specs.PartImage.{list_pattern, patterns_in_list, list_patterns, holes, first_pattern, other_patterns, dealt, item_patterns, joined_image}
-use Rattle.image_laws.specs.Image.{patterns_by_name}
+use Rattle.law_images.specs.declared.pattern.Pattern.{Pattern}
+use Rattle.law_images.specs.declared.pattern.Patterns.{Patterns}
+use Rattle.law_images.specs.Patterns.{PatternTree, hole, alt_pattern, PatternTrees, no_patterns, more_patterns, patterns_from, pattern_list, pattern_tree, patterns_tree}
+use Rattle.law_images.specs.PartImage.{list_pattern, patterns_in_list, list_patterns, holes, first_pattern, other_patterns, dealt, item_patterns, joined_image}
+use Rattle.law_images.specs.Image.{patterns_by_name}
 use Rattle.lens_check.specs.PartLists.{trees_of, list_of, field_pattern, tag_lists, item_at}
 use Rattle.lens_check.proofs.PartNames.{by_name}
 

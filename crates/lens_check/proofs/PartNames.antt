@@ -13,10 +13,10 @@ use Rattle.lens_forms.specs.Forms.{insert_field, sorted, lists_of}
 use Rattle.lens_types.proofs.StableSort.{put, put_all, sorted_is}
 use Rattle.lens_core.specs.Tags.{tag_count}
 use Rattle.lens_core.proofs.Tags.{tag_count-length}
-use Rattle.image_laws.specs.declared.pattern.Pattern.{Pattern, Rec, the_lemmas as pattern_lemmas}
-use Rattle.image_laws.specs.declared.pattern.Patterns.{Patterns}
-use Rattle.image_laws.specs.Patterns.{PatternTree, hole, unit_pattern, truth_pattern, int_pattern, text_pattern, pick_pattern, rec_pattern, alt_pattern, hold_pattern, PatternTrees, no_patterns, more_patterns, pattern_count, pattern_list, patterns_from, in_order, pattern_tree, patterns_tree}
-use Rattle.image_laws.specs.Image.{pattern_at, patterns_by_name}
+use Rattle.law_images.specs.declared.pattern.Pattern.{Pattern, Rec, the_lemmas as pattern_lemmas}
+use Rattle.law_images.specs.declared.pattern.Patterns.{Patterns}
+use Rattle.law_images.specs.Patterns.{PatternTree, hole, unit_pattern, truth_pattern, int_pattern, text_pattern, pick_pattern, rec_pattern, alt_pattern, hold_pattern, PatternTrees, no_patterns, more_patterns, pattern_count, pattern_list, patterns_from, in_order, pattern_tree, patterns_tree}
+use Rattle.law_images.specs.Image.{pattern_at, patterns_by_name}
 use Rattle.lens_check.specs.PartLists.{place_of, pattern_named, field_pattern}
 
 -- ---- the names in order

@@ -4,11 +4,11 @@ use Rattle.std.specs.Prelude.{Vec, vec_items}
 use Rattle.std.proofs.lemmas.List.{take_all, take_more, map-append, get_or-map, length-map}
 use Rattle.doc_values.specs.Types.{FieldTrees, names_of}
 use Rattle.lens_core.specs.Tags.{tag_number}
-use Rattle.image_laws.specs.declared.pattern.Pattern.{Pattern}
-use Rattle.image_laws.specs.declared.pattern.Patterns.{Patterns}
-use Rattle.image_laws.specs.Patterns.{PatternTree, hole, rec_pattern, PatternTrees, pattern_count, patterns_from, pattern_list, pattern_tree, patterns_tree}
-use Rattle.image_laws.proofs.PatternLists.{pattern_list-patterns_from}
-use Rattle.image_laws.specs.PartImage.{list_pattern}
+use Rattle.law_images.specs.declared.pattern.Pattern.{Pattern}
+use Rattle.law_images.specs.declared.pattern.Patterns.{Patterns}
+use Rattle.law_images.specs.Patterns.{PatternTree, hole, rec_pattern, PatternTrees, pattern_count, patterns_from, pattern_list, pattern_tree, patterns_tree}
+use Rattle.law_images.proofs.PatternLists.{pattern_list-patterns_from}
+use Rattle.law_images.specs.PartImage.{list_pattern}
 use Rattle.lens_check.specs.PartLists.{trees_in, trees_of, list_of, list_at_tag}
 use Rattle.lens_check.proofs.PartContents.{list_made}
 

@@ -4,8 +4,8 @@ use Rattle.std.specs.Prelude.{◌↔◌}
 use Rattle.doc_values.specs.Documents.{DocTree, DocTrees, no_docs, more_docs, doc_list}
 use Rattle.doc_values.specs.Types.{TyTree}
 use Rattle.doc_values.specs.Typing.{has}
-use Rattle.image_laws.specs.Patterns.{PatternTree, Matches, more_patterns, patterns_from, pattern_of, patterns_of, is_of_type}
-use Rattle.image_laws.proofs.TypedPatterns.{pattern_typed, match_self, match_only}
+use Rattle.law_images.specs.Patterns.{PatternTree, Matches, more_patterns, patterns_from, pattern_of, patterns_of, is_of_type}
+use Rattle.law_images.proofs.TypedPatterns.{pattern_typed, match_self, match_only}
 
 -- the patterns of the contents, one by one
 pub patterns_one_by_one : (ds : DocTrees) → patterns_from (map pattern_of (doc_list ds)) ≡ patterns_of ds

@@ -6,9 +6,9 @@ use Rattle.hold_shapes.specs.declared.shape.Shape.{Shape}
 use Rattle.texts.specs.declared.side.Side.{Side}
 use Rattle.texts.specs.declared.side.Side.TheVariants.{Left, Right}
 use Rattle.lens_forms.specs.Forms.{FormTree, FormRowTree, row_both, row_left, row_right, ArmTrees, no_arms, more_arms}
-use Rattle.image_laws.specs.Patterns.{PatternTree, hole, rec_pattern, hold_pattern, pattern_list, pattern_count}
-use Rattle.image_laws.specs.Patterns.{pattern_tree}
-use Rattle.image_laws.specs.Image.{is_same_shape}
+use Rattle.law_images.specs.Patterns.{PatternTree, hole, rec_pattern, hold_pattern, pattern_list, pattern_count}
+use Rattle.law_images.specs.Patterns.{pattern_tree}
+use Rattle.law_images.specs.Image.{is_same_shape}
 use Rattle.lens_check.specs.declared.image_record.SortedFields.{SortedFields}
 
 -- ---- alternatives

@@ -1,12 +1,12 @@
--- `Matches` of image_laws as a test: whether a document is in a pattern.
+-- `Matches` of law_images as a test: whether a document is in a pattern.
 use Rattle.std.specs.Prelude.{Bool, true, false, ◌&&◌, bytes_eq}
 use Rattle.std.specs.Ordering.{int_eq}
 use Rattle.doc_values.specs.Documents.{DocTree, unit, truth, int, text, pick, rec, alt, hold, DocTrees, no_docs}
 use Rattle.doc_values.specs.Documents.{more_docs}
-use Rattle.image_laws.specs.Patterns.{PatternTree, hole, unit_pattern, truth_pattern, int_pattern, text_pattern}
-use Rattle.image_laws.specs.Patterns.{pick_pattern, rec_pattern, alt_pattern, hold_pattern, PatternTrees, no_patterns}
-use Rattle.image_laws.specs.Patterns.{more_patterns}
-use Rattle.image_laws.specs.Image.{is_same_shape}
+use Rattle.law_images.specs.Patterns.{PatternTree, hole, unit_pattern, truth_pattern, int_pattern, text_pattern}
+use Rattle.law_images.specs.Patterns.{pick_pattern, rec_pattern, alt_pattern, hold_pattern, PatternTrees, no_patterns}
+use Rattle.law_images.specs.Patterns.{more_patterns}
+use Rattle.law_images.specs.Image.{is_same_shape}
 
 -- two truth values are the same
 abbrev pub is_same_truth : Bool → Bool → Bool

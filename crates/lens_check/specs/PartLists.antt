@@ -6,11 +6,11 @@ use Rattle.std.specs.List.{range_with_len}
 use Rattle.doc_values.specs.Types.{FieldTrees, no_fields, more_fields}
 use Rattle.tag_seq.specs.Tags.{count, rank}
 use Rattle.lens_core.specs.Tags.{tag_number, tag_name}
-use Rattle.image_laws.specs.declared.pattern.Pattern.{Pattern}
-use Rattle.image_laws.specs.declared.pattern.Patterns.{Patterns}
-use Rattle.image_laws.specs.Patterns.{PatternTree, hole, rec_pattern, alt_pattern, PatternTrees, no_patterns}
-use Rattle.image_laws.specs.Patterns.{more_patterns, patterns_from, pattern_list, pattern_tree, patterns_tree}
-use Rattle.image_laws.specs.PartImage.{list_pattern, patterns_in_list, patterns_at}
+use Rattle.law_images.specs.declared.pattern.Pattern.{Pattern}
+use Rattle.law_images.specs.declared.pattern.Patterns.{Patterns}
+use Rattle.law_images.specs.Patterns.{PatternTree, hole, rec_pattern, alt_pattern, PatternTrees, no_patterns}
+use Rattle.law_images.specs.Patterns.{more_patterns, patterns_from, pattern_list, pattern_tree, patterns_tree}
+use Rattle.law_images.specs.PartImage.{list_pattern, patterns_in_list, patterns_at}
 
 -- the trees of the patterns in a `Vec`, and of those in a `Patterns`
 abbrev pub trees_in : {Z : Type 0} → Vec Pattern Z → List PatternTree

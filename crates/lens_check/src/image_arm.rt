@@ -3,12 +3,12 @@
 ghost use Rattle.std.specs.Prelude.{◌≡◌, ◌<◌, IfOk, MatchOption, option_map};
 ghost use Rattle.lens_forms.specs.Forms.{form_tree, arm_tree, arms_tree};
 ghost use Rattle.lens_forms.specs.Measures.{form_parts, arms_parts};
-ghost use Rattle.image_laws.specs.PartImage.{content_pattern};
-ghost use Rattle.image_laws.specs.Patterns.{pattern_tree, alt_pattern};
+ghost use Rattle.law_images.specs.PartImage.{content_pattern};
+ghost use Rattle.law_images.specs.Patterns.{pattern_tree, alt_pattern};
 ghost use Rattle.lens_check.specs.ImageParts.{first_arm};
 
 use crate::owned::boxed;
-use image_laws::Pattern;
+use law_images::Pattern;
 use lens_forms::{Form, FormArms};
 use std::alloc::{AllocError, Global};
 use texts::{Name, Twin};

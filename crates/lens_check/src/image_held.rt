@@ -1,11 +1,11 @@
 //! The places of a container's pattern.
 
 ghost use Rattle.std.specs.Prelude.{◌≡◌, IfOk};
-ghost use Rattle.image_laws.specs.Patterns.{pattern_tree, patterns_tree, hold_pattern};
+ghost use Rattle.law_images.specs.Patterns.{pattern_tree, patterns_tree, hold_pattern};
 ghost use Rattle.lens_check.specs.ImageParts.{has_shape, HasPlace, place_pattern};
 
 use hold_shapes::Shape;
-use image_laws::{Pattern, Patterns};
+use law_images::{Pattern, Patterns};
 use std::alloc::{AllocError, Global};
 use texts::Twin;
 

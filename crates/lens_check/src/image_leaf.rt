@@ -6,13 +6,13 @@ ghost use Rattle.lens_forms.specs.Forms.{form_part};
 ghost use Rattle.lens_core.specs.Complements.{comp_tree};
 ghost use Rattle.lens_core.specs.Sides.{near, far};
 ghost use Rattle.lens_core.specs.Translation.{partner};
-ghost use Rattle.image_laws.specs.Image.{image, partner_pattern};
-ghost use Rattle.image_laws.specs.Patterns.{pattern_tree};
+ghost use Rattle.law_images.specs.Image.{image, partner_pattern};
+ghost use Rattle.law_images.specs.Patterns.{pattern_tree};
 ghost use Rattle.lens_check.specs.ReadyComplements.{IsReady};
 
 use crate::image_part::{joined_image, parted_image};
 use doc_values::Fields;
-use image_laws::Pattern;
+use law_images::Pattern;
 use lens_core::Comp;
 use program_terms::Pairs;
 use std::alloc::{AllocError, Global};

@@ -7,15 +7,15 @@ ghost use Rattle.doc_values.specs.Types.{fields_tree};
 ghost use Rattle.tag_seq.specs.Tags.{are_below};
 ghost use Rattle.lens_core.specs.Tags.{tag_count};
 ghost use Rattle.lens_forms.specs.Forms.{sorted, lists_of};
-ghost use Rattle.image_laws.specs.Patterns.{pattern_tree};
-ghost use Rattle.image_laws.specs.PartImage.{parted_image, joined_image};
-ghost use Rattle.image_laws.specs.Image.{patterns_by_name};
+ghost use Rattle.law_images.specs.Patterns.{pattern_tree};
+ghost use Rattle.law_images.specs.PartImage.{parted_image, joined_image};
+ghost use Rattle.law_images.specs.Image.{patterns_by_name};
 
 use crate::image_part_left::{contents_by_tag, record_of_lists};
 use crate::image_part_lists::patterns_in_list;
 use crate::image_part_right::{items, tag_lists};
 use doc_values::Fields;
-use image_laws::Pattern;
+use law_images::Pattern;
 use std::alloc::{AllocError, Global};
 use tag_seq::TagSeq;
 

@@ -6,15 +6,15 @@ ghost use Rattle.doc_values.specs.Types.{fields_tree, names_of};
 ghost use Rattle.tag_seq.specs.Tags.{are_below};
 ghost use Rattle.lens_core.specs.Tags.{tag_count, tag_number};
 ghost use Rattle.lens_forms.specs.Forms.{sorted, lists_of};
-ghost use Rattle.image_laws.specs.Patterns.{pattern_tree, patterns_tree, patterns_from, pattern_count, rec_pattern};
-ghost use Rattle.image_laws.specs.PartImage.{content_pattern, content_patterns};
+ghost use Rattle.law_images.specs.Patterns.{pattern_tree, patterns_tree, patterns_from, pattern_count, rec_pattern};
+ghost use Rattle.law_images.specs.PartImage.{content_pattern, content_patterns};
 ghost use Rattle.lens_check.specs.PartLists.{trees_in, trees_of, with_content, lists_by_tag, list_at_tag, list_of};
 
 use crate::image_part_tags::{field_names, tag_at};
 use crate::owned::push;
 use doc_values::Fields;
 use hold_shapes::{ListShape, Shape};
-use image_laws::{Pattern, Patterns};
+use law_images::{Pattern, Patterns};
 use std::alloc::{AllocError, Global};
 use tag_seq::TagSeq;
 use texts::{Name, Twin};

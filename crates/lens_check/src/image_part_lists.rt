@@ -2,12 +2,12 @@
 
 ghost use Rattle.std.specs.Prelude.{◌≡◌, IfOk, length, map, option_map};
 ghost use Rattle.doc_values.specs.Typing.{is_list_of};
-ghost use Rattle.image_laws.specs.Patterns.{pattern_tree, patterns_tree, patterns_from};
-ghost use Rattle.image_laws.specs.PartImage.{holes, list_pattern, patterns_in_list};
+ghost use Rattle.law_images.specs.Patterns.{pattern_tree, patterns_tree, patterns_from};
+ghost use Rattle.law_images.specs.PartImage.{holes, list_pattern, patterns_in_list};
 
 use crate::owned::push;
 use hold_shapes::{ListShape, Shape};
-use image_laws::{Pattern, Patterns};
+use law_images::{Pattern, Patterns};
 use std::alloc::{AllocError, Global};
 use texts::Twin;
 

@@ -7,15 +7,15 @@ ghost use Rattle.doc_values.specs.Types.{fields_tree, type_fields_of, field_tree
 ghost use Rattle.tag_seq.specs.Tags.{are_below};
 ghost use Rattle.lens_core.specs.Tags.{tag_count};
 ghost use Rattle.lens_forms.specs.Forms.{sorted, lists_of};
-ghost use Rattle.image_laws.specs.Patterns.{hole, pattern_tree, patterns_tree};
-ghost use Rattle.image_laws.specs.PartImage.{patterns_in_list};
+ghost use Rattle.law_images.specs.Patterns.{hole, pattern_tree, patterns_tree};
+ghost use Rattle.law_images.specs.PartImage.{patterns_in_list};
 ghost use Rattle.lens_check.specs.PartLists.{trees_of, list_of, field_pattern, tag_lists, item_at};
 
 use crate::image_part_lists::{holes, list_of, patterns_in_list};
 use crate::image_part_tags::{counts, field_names, place_of, rank, tag_at};
 use crate::owned::{boxed, push};
 use doc_values::{Fields, Ty};
-use image_laws::{Pattern, Patterns};
+use law_images::{Pattern, Patterns};
 use std::alloc::{AllocError, Global};
 use tag_seq::TagSeq;
 use texts::{Name, Twin};

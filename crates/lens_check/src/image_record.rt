@@ -6,13 +6,13 @@ ghost use Rattle.texts.specs.Keys.{has_name, is_rising, key_rank};
 ghost use Rattle.doc_values.specs.Types.{names_of};
 ghost use Rattle.lens_forms.specs.Forms.{row_tree, rows_tree};
 ghost use Rattle.lens_core.specs.Sides.{fields_on};
-ghost use Rattle.image_laws.specs.Image.{patterns_by_name};
-ghost use Rattle.image_laws.specs.Patterns.{pattern_tree, hole};
+ghost use Rattle.law_images.specs.Image.{patterns_by_name};
+ghost use Rattle.law_images.specs.Patterns.{pattern_tree, hole};
 ghost use Rattle.lens_check.specs.ImageParts.{field_pattern, has_field_before, if_far, place_among, names_in};
 ghost use Rattle.lens_check.specs.ImageParts.{patterns_in};
 
 use crate::owned::put_at;
-use image_laws::Pattern;
+use law_images::Pattern;
 use lens_forms::{FormRow, FormRows};
 use std::alloc::{AllocError, Global};
 use texts::{Name, Side, Twin};

@@ -7,8 +7,8 @@ ghost use Rattle.lens_forms.specs.Forms.{form_tree, rows_tree, arms_tree, form_t
 ghost use Rattle.lens_forms.specs.Typing.{is_typed};
 ghost use Rattle.lens_core.specs.Complements.{comp_tree, Fits};
 ghost use Rattle.lens_core.specs.Sides.{near, far, fields_on};
-ghost use Rattle.image_laws.specs.Image.{image, image_held, arm_pattern, patterns_by_name};
-ghost use Rattle.image_laws.specs.Patterns.{pattern_tree};
+ghost use Rattle.law_images.specs.Image.{image, image_held, arm_pattern, patterns_by_name};
+ghost use Rattle.law_images.specs.Patterns.{pattern_tree};
 ghost use Rattle.lens_check.specs.ReadyComplements.{IsReady, AreReadyPlaces};
 
 use crate::image_arm::{content_pattern, find_arm, tagged};
@@ -16,7 +16,7 @@ use crate::image_held::{has_shape, held, place_pattern};
 use crate::image_leaf::{far, near, part_image, partner_pattern};
 use crate::image_record::{SortedFields, near_pattern};
 use crate::owned::push;
-use image_laws::{Pattern, Patterns};
+use law_images::{Pattern, Patterns};
 use lens_core::Comp;
 use lens_forms::{Form, FormArms, FormRow, FormRows};
 use std::alloc::{AllocError, Global};

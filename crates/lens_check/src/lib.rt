@@ -3,7 +3,7 @@
 //! [`consistent`] says whether two documents and a complement are consistent. It goes by images: the image of a pattern
 //! through a lens is the pattern of all documents of the other side that are consistent with some document in the given
 //! one, and [`image`] makes it. [`conforms`] says whether a complement fits a form, [`matches`] whether a document is
-//! in a pattern, and [`pattern_of`] makes the pattern of a document. Patterns are those of `image_laws`.
+//! in a pattern, and [`pattern_of`] makes the pattern of a document. Patterns are those of `law_images`.
 #![tactic(auto)]
 
 mod decision;
@@ -26,4 +26,4 @@ pub use crate::decision::{consistent, image};
 pub use crate::fit::conforms;
 pub use crate::membership::matches;
 pub use crate::whole::pattern_of;
-pub use image_laws::{Pattern, Patterns};
+pub use law_images::{Pattern, Patterns};

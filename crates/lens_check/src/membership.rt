@@ -2,13 +2,13 @@
 
 ghost use Rattle.std.specs.Prelude.{◌≡◌, ◌↔◌, IsTrue};
 ghost use Rattle.doc_values.specs.Documents.{doc_tree, docs_tree};
-ghost use Rattle.image_laws.specs.Patterns.{pattern_tree, patterns_tree, Matches};
-ghost use Rattle.image_laws.specs.Image.{is_same_shape};
+ghost use Rattle.law_images.specs.Patterns.{pattern_tree, patterns_tree, Matches};
+ghost use Rattle.law_images.specs.Image.{is_same_shape};
 ghost use Rattle.lens_check.specs.MatchTest.{is_match, match_each};
 
 use doc_values::{Doc, Docs};
 use hold_shapes::Shape;
-use image_laws::{Pattern, Patterns};
+use law_images::{Pattern, Patterns};
 
 /// Whether the document is in the pattern: it differs from the pattern only where the pattern has holes. Nothing is
 /// said of its type.

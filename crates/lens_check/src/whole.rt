@@ -4,13 +4,13 @@ ghost use Rattle.std.specs.Prelude.{◌≡◌, ◌↔◌, IsTrue, IfOk};
 ghost use Rattle.doc_values.specs.Documents.{DocTree, doc_tree, docs_tree};
 ghost use Rattle.doc_values.specs.Types.{TyTree};
 ghost use Rattle.doc_values.specs.Typing.{has};
-ghost use Rattle.image_laws.specs.Patterns.{Matches, is_of_type, pattern_tree, patterns_tree, pattern_of, patterns_of};
+ghost use Rattle.law_images.specs.Patterns.{Matches, is_of_type, pattern_tree, patterns_tree, pattern_of, patterns_of};
 
 use crate::image_arm::tagged;
 use crate::image_held::held;
 use crate::owned::push;
 use doc_values::{Doc, Docs};
-use image_laws::{Pattern, Patterns};
+use law_images::{Pattern, Patterns};
 use std::alloc::{AllocError, Global};
 use texts::Twin;
 

@@ -6,7 +6,7 @@ use Rattle.std.proofs.Math.Seq.{get_or-append_seam}
 use Rattle.doc_values.specs.Types.{no_fields}
 use Rattle.lens_forms.specs.Forms.{FormTree, form_part, form_inv}
 use Rattle.lens_core.specs.Complements.{comp_tree, missing}
-use Rattle.form_steps.specs.Kinds.{mapped}
+use Rattle.lens_steps.specs.Kinds.{mapped}
 use Rattle.lens_flat.specs.Tables.{node_form, form_in, forms_behind, form_at, AreLenses, IsNode, IsEntry, AreSound, Adds}
 use Rattle.lens_flat.specs.declared.node.Node.{Node}
 use Rattle.lens_flat.specs.declared.node.Node.TheVariants.{Leaf, Then, Record, Alternatives, Held, Partition, Inverse}

@@ -13,8 +13,8 @@ use Rattle.lens_core.specs.Leaves.{is_leaf}
 use Rattle.lens_core.specs.declared.comp.Comps.{Comps}
 use Rattle.lens_branch.specs.AlternativeSteps.{arm_lens, arm_starts}
 use Rattle.lens_branch.specs.RecordSteps.{row_lens}
-use Rattle.form_steps.specs.Kinds.{mapped}
-use Rattle.form_steps.specs.declared.kinds.Kind.{Kind}
+use Rattle.lens_steps.specs.Kinds.{mapped}
+use Rattle.lens_steps.specs.declared.kinds.Kind.{Kind}
 use Rattle.lens_flat.specs.Tables.{form_at, AreLenses, AreSound, Grows, Adds, Readies, AddsLenses}
 use Rattle.lens_flat.specs.declared.node.Node.TheVariants.{Leaf, Then, Record, Alternatives, Held, Partition, Inverse}
 use Rattle.lens_flat.specs.declared.node.Entry.{Entry}

@@ -21,12 +21,12 @@ use Rattle.lens_core.specs.declared.carry.CarryFault.{CarryFault}
 use Rattle.lens_core.specs.declared.comp.Comps.{Comps}
 use Rattle.lens_branch.specs.AlternativeSteps.{arm_lens, arm_translation}
 use Rattle.lens_branch.specs.RecordSteps.{row_lens, row_translation}
-use Rattle.form_steps.specs.Kinds.{mapped}
-use Rattle.form_steps.specs.Ready.{IsReady}
-use Rattle.form_steps.specs.declared.kinds.Kind.{Kind}
-use Rattle.form_steps.specs.declared.kinds.Kind.TheVariants.{List as ListKind, Keyed, Tree}
-use Rattle.form_steps.proofs.OnePrimitive.{IsOf}
-use Rattle.form_steps.proofs.ReadyForms.{ready_first, ready_second, ready_row, ready_arm}
+use Rattle.lens_steps.specs.Kinds.{mapped}
+use Rattle.lens_steps.specs.Ready.{IsReady}
+use Rattle.lens_steps.specs.declared.kinds.Kind.{Kind}
+use Rattle.lens_steps.specs.declared.kinds.Kind.TheVariants.{List as ListKind, Keyed, Tree}
+use Rattle.lens_steps.proofs.OnePrimitive.{IsOf}
+use Rattle.lens_steps.proofs.ReadyForms.{ready_first, ready_second, ready_row, ready_arm}
 use Rattle.lens_flat.specs.Tables.{form_at, IsEntry, AreSound, IsCompiled, IsReadyAt, IsAt}
 use Rattle.lens_flat.specs.declared.node.Node.{Node}
 use Rattle.lens_flat.specs.declared.node.Node.TheVariants.{Leaf, Then, Record, Alternatives, Held, Partition, Inverse}

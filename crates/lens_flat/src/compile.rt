@@ -7,9 +7,9 @@ ghost use Rattle.lens_branch.specs.RecordSteps.{row_lens};
 ghost use Rattle.lens_flat.specs.Tables.{form_at, node_form, IsNode, AreSound, Adds, Readies, AddsLenses};
 
 use crate::node::{Entry, Node};
-use form_steps::{Kind, arm_starts};
 use lens_core::missing;
 use lens_forms::{Form, FormArms, FormRow, FormRows};
+use lens_steps::{Kind, arm_starts};
 use std::alloc::{AllocError, Global};
 use texts::Twin;
 

@@ -5,9 +5,9 @@ ghost use Rattle.lens_core.specs.Complements.{comp_tree, missing};
 ghost use Rattle.lens_flat.specs.Tables.{form_at, IsAt, IsReadyAt};
 
 use doc_values::Fields;
-use form_steps::Kind;
 use lens_core::{Comp, Comps};
 use lens_forms::{Form, FormArms, FormRows};
+use lens_steps::Kind;
 
 /// One constructor of a form. Each lens inside is a node before it, and comes as the number of that node.
 #[derive(Drop)]

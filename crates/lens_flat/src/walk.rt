@@ -7,7 +7,7 @@ ghost use Rattle.lens_core.specs.Complements.{comp_tree};
 ghost use Rattle.lens_core.specs.Translation.{translate, translate_one, carried_tree, IsCarryFault};
 ghost use Rattle.lens_branch.specs.AlternativeSteps.{arm_translation};
 ghost use Rattle.lens_branch.specs.RecordSteps.{row_translation};
-ghost use Rattle.form_steps.specs.Kinds.{mapped};
+ghost use Rattle.lens_steps.specs.Kinds.{mapped};
 ghost use Rattle.lens_flat.specs.Tables.{form_at, IsReadyAt, IsAt};
 ghost use Rattle.lens_flat.specs.declared.node.Node.TheVariants.{Record, Alternatives};
 
@@ -15,10 +15,10 @@ use crate::node::{Entry, Node, missing_at, node_at};
 use container_lens::{hold_begin, hold_finish};
 use edit_module::Word;
 use edit_module::word::Primitive;
-use form_steps::{Kind, carry_leaf, carry_part, held_as, onward};
 use lens_branch::{alt_begin, alt_finish, rec_begin, rec_finish};
 use lens_core::{Begun, Carried, CarryFault, Comp, Comps};
 use lens_forms::{FormArms, FormRows};
+use lens_steps::{Kind, carry_leaf, carry_part, held_as, onward};
 use std::alloc::Global;
 use texts::{Side, Twin};
 
@@ -136,7 +136,7 @@ fn carry_then(
 
 // Through a record.
 #[cycle(carry)]
-#[tactic(auto, using(form_steps::proofs::Rounds::needs_inside))]
+#[tactic(auto, using(lens_steps::proofs::Rounds::needs_inside))]
 fn carry_record(
     alloc: Global,
     table: &[Entry],
@@ -193,7 +193,7 @@ fn carry_row(
 
 // Through alternatives.
 #[cycle(carry)]
-#[tactic(auto, using(form_steps::proofs::Rounds::has_begun))]
+#[tactic(auto, using(lens_steps::proofs::Rounds::has_begun))]
 fn carry_alternatives(
     alloc: Global,
     table: &[Entry],

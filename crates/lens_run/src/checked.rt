@@ -7,8 +7,8 @@ ghost use Rattle.edit_module.specs.Words.{WordTree};
 ghost use Rattle.lens_forms.specs.Forms.{form_tree};
 ghost use Rattle.lens_core.specs.Complements.{comp_tree};
 ghost use Rattle.lens_core.specs.Translation.{translate, carried_tree, IsCarryFault};
-ghost use Rattle.equation_laws.specs.Alike.{AreAlike};
-ghost use Rattle.form_steps.specs.Ready.{IsReady};
+ghost use Rattle.law_equations.specs.Alike.{AreAlike};
+ghost use Rattle.lens_steps.specs.Ready.{IsReady};
 
 use crate::run::carry_word;
 use doc_values::Ty;
@@ -50,8 +50,8 @@ impl EditLens for Checked {
     ghost use Rattle.lens_core.specs.Complements.{missing};
     ghost use Rattle.lens_core.specs.Consistency.{IsConsistent};
     ghost use Rattle.lens_core.specs.Translation.{translate};
-    ghost use Rattle.form_steps.specs.LawsOfForms.{formed_types, form_starts, form_documents, form_edits, form_empty};
-    ghost use Rattle.form_steps.specs.LawsOfForms.{form_joined};
+    ghost use Rattle.lens_steps.specs.LawsOfForms.{formed_types, form_starts, form_documents, form_edits, form_empty};
+    ghost use Rattle.lens_steps.specs.LawsOfForms.{form_joined};
 
     ghost left_type = { λ l. left_type (form_tree l.typed) };
 
@@ -91,7 +91,7 @@ impl EditLens for Checked {
     /// Translates a word of a side, with a complement. Beside what every lens says of it, words that differ only by
     /// where their primitives are joined are carried alike: to words that differ only so, with the same complement, or
     /// not at all.
-    #[tactic(auto, using(equation_laws::proofs::EveryForm::typed_keeps))]
+    #[tactic(auto, using(law_equations::proofs::EveryForm::typed_keeps))]
     fn carry(
         &self,
         alloc: Global,

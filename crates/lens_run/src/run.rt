@@ -7,16 +7,16 @@ ghost use Rattle.lens_core.specs.Complements.{comp_tree};
 ghost use Rattle.lens_core.specs.Translation.{translate, translate_one, carried_tree, IsCarryFault};
 ghost use Rattle.lens_branch.specs.AlternativeSteps.{arm_translation};
 ghost use Rattle.lens_branch.specs.RecordSteps.{row_translation};
-ghost use Rattle.form_steps.specs.Kinds.{mapped};
-ghost use Rattle.form_steps.specs.Ready.{IsReady};
+ghost use Rattle.lens_steps.specs.Kinds.{mapped};
+ghost use Rattle.lens_steps.specs.Ready.{IsReady};
 
 use container_lens::{hold_begin, hold_finish};
 use edit_module::Word;
 use edit_module::word::Primitive;
-use form_steps::{Kind, arm_starts, carry_leaf, carry_part, held_as, onward};
 use lens_branch::{alt_begin, alt_finish, arm_form, rec_begin, rec_finish, row_form};
 use lens_core::{Begun, Carried, CarryFault, Comp, missing};
 use lens_forms::{Form, FormArms, FormRows};
+use lens_steps::{Kind, arm_starts, carry_leaf, carry_part, held_as, onward};
 use std::alloc::Global;
 use texts::{Side, Twin};
 
@@ -90,7 +90,7 @@ fn carry_one(
 
 // Through a composition: through the lens of the edited side, and then through the other one.
 #[cycle(carry)]
-#[tactic(auto, using(form_steps::proofs::Compositions::then_rules))]
+#[tactic(auto, using(lens_steps::proofs::Compositions::then_rules))]
 fn carry_then(
     alloc: Global,
     first: &Form,
@@ -125,7 +125,7 @@ fn carry_then(
 
 // Through a record.
 #[cycle(carry)]
-#[tactic(auto, using(form_steps::proofs::Rounds::needs_inside))]
+#[tactic(auto, using(lens_steps::proofs::Rounds::needs_inside))]
 fn carry_record(
     alloc: Global,
     rows: &FormRows,
@@ -154,7 +154,7 @@ fn carry_record(
 
 // Through the lens of the row of a number.
 #[cycle(carry)]
-#[tactic(auto, using(form_steps::proofs::ReadyForms::ready_row))]
+#[tactic(auto, using(lens_steps::proofs::ReadyForms::ready_row))]
 fn carry_row(
     alloc: Global,
     rows: &FormRows,
@@ -177,7 +177,7 @@ fn carry_row(
 
 // Through alternatives.
 #[cycle(carry)]
-#[tactic(auto, using(form_steps::proofs::Rounds::has_begun))]
+#[tactic(auto, using(lens_steps::proofs::Rounds::has_begun))]
 fn carry_alternatives(
     alloc: Global,
     arms: &FormArms,
@@ -207,7 +207,7 @@ fn carry_alternatives(
 
 // Through the lens of the arm of a number.
 #[cycle(carry)]
-#[tactic(auto, using(form_steps::proofs::ReadyForms::ready_arm))]
+#[tactic(auto, using(lens_steps::proofs::ReadyForms::ready_arm))]
 fn carry_arm(
     alloc: Global,
     arms: &FormArms,

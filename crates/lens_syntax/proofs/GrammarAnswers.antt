@@ -11,9 +11,9 @@ use Rattle.program_grammar.specs.declared.mention.NameFault.{NameFault}
 use Rattle.program_grammar.specs.declared.mention.NameFault.TheVariants.{Unknown, Repeated}
 use Rattle.program_reader.specs.Causes.{ReadCause, program_or_cause, program_of, if_no_fault}
 use Rattle.program_reader.specs.Causes as tokens
-use Rattle.spelling_laws.proofs.Programs.{program_found, program_again, one_program, no_program}
-use Rattle.prefix_laws.proofs.ReadingLaws.{stops_there, only_there}
-use Rattle.prefix_laws.proofs.TextEnd.{a_text_ends}
+use Rattle.law_spellings.proofs.Programs.{program_found, program_again, one_program, no_program}
+use Rattle.law_prefixes.proofs.ReadingLaws.{stops_there, only_there}
+use Rattle.law_prefixes.proofs.TextEnd.{a_text_ends}
 use Rattle.program_writing.specs.Canonical.{canonical}
 use Rattle.program_writing.specs.Writable.{IsWritable}
 use Rattle.program_writing.proofs.CanonicalTokens.{program_spelt}

@@ -15,7 +15,7 @@ use Rattle.hold_shapes.specs.Causes as Fault
 use Rattle.hold_shapes.specs.Plans.{Planned, old_places, list_of, is_count, is_each_new, plan_list}
 use Rattle.hold_shapes.specs.Gather.{content_at}
 use Rattle.hold_shapes.specs.declared.lists.TheConstants.{MOST_ITEMS}
-use Rattle.shape_laws.proofs.Content.{content-old_places}
+use Rattle.law_shapes.proofs.Content.{content-old_places}
 use Rattle.doc_values.specs.Documents.{DocTree, unit, hold, docs_of}
 use Rattle.doc_values.specs.Types.{TyTree, ty_list}
 use Rattle.edit_module.specs.declared.fault.Cause.{Cause}

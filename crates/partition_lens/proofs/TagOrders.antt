@@ -11,8 +11,8 @@ use Rattle.texts.proofs.Conjunction.{first, second}
 use Rattle.hold_shapes.specs.declared.origins.Origin.TheVariants.{Old}
 use Rattle.hold_shapes.specs.Plans.{old_places, has_number, is_each_new}
 use Rattle.hold_shapes.specs.Gather.{content_at}
-use Rattle.shape_laws.proofs.Content.{content-old_places}
-use Rattle.shape_laws.proofs.Permuted.{perm-order}
+use Rattle.law_shapes.proofs.Content.{content-old_places}
+use Rattle.law_shapes.proofs.Permuted.{perm-order}
 use Rattle.doc_values.specs.Documents.{DocTree}
 use Rattle.tag_seq.specs.Tags.{count, rank, place, one_if_same}
 use Rattle.tag_seq.proofs.Ranks.{place-after-rank}

@@ -10,16 +10,16 @@ ghost use Rattle.script_input.specs.Parts.{HoldsPart, ReadsHead, StopsHead};
 ghost use Rattle.script_input.specs.PartSteps.{IsProgramFront, MovesOn, AddsLines};
 ghost use Rattle.script_input.specs.declared.limits.TheConstants.{PIECE_BYTES};
 ghost use Rattle.lens_syntax.specs.declared.reading.TheConstants.{MOST_PROGRAM_BYTES};
-ghost use Rattle.accepted_programs.specs.Program.{IsAccepted, lens_of};
+ghost use Rattle.program_accepted.specs.Program.{IsAccepted, lens_of};
 ghost use Rattle.program_terms.specs.Views.{program_tree};
-ghost use Rattle.accepted_programs.specs.Refused.{IsKnown, IsProgramRefusal};
+ghost use Rattle.program_accepted.specs.Refused.{IsKnown, IsProgramRefusal};
 
 use crate::Input;
-use accepted_programs::{Accepted, Refused, read_accepted, read_lens};
 use edit_journal::Line;
 use lens_io::{Source, TakeFault};
 use lens_syntax::{MOST_PROGRAM_BYTES, ProgramFault};
 use lens_types::Typed;
+use program_accepted::{Accepted, Refused, read_accepted, read_lens};
 use std::alloc::{AllocError, Global};
 
 /// The text of a program part, unless it is too long. Of one that is too long the text says nothing.
@@ -80,7 +80,7 @@ impl ProgramText {
     }
 
     /// The lens of the program part, or why it is refused: by `ProgramTooLong` if and only if it has more than 65,536
-    /// bytes, else as `read_lens` of accepted_programs refuses its text.
+    /// bytes, else as `read_lens` of program_accepted refuses its text.
     pub fn lens(&self, alloc: Global) -> Result<Typed, Refused>
         ensures lens { (part : List ℕ) → HoldsPart self.now part → MatchResult result
             (λ lens. lens_of part ≡ Ok (form_tree lens)) (λ refused. IsProgramRefusal (lens_of part) refused) }

@@ -23,9 +23,9 @@ use Rattle.lens_core.specs.Sides.{near}
 use Rattle.lens_core.specs.Translation.{Translated, translate}
 use Rattle.lens_forms.specs.Forms.{FormTree, left_type, right_type}
 use Rattle.lens_forms.specs.declared.limits.TheConstants.{GREATEST_HEIGHT}
-use Rattle.pair_answers.specs.Answers.{state_lines}
-use Rattle.pair_answers.specs.ItemRuns.{IsInStepFor, triple_at_first}
-use Rattle.pair_answers.proofs.InStep.{of_form}
+use Rattle.run_answers.specs.Answers.{state_lines}
+use Rattle.run_answers.specs.ItemRuns.{IsInStepFor, triple_at_first}
+use Rattle.run_answers.proofs.InStep.{of_form}
 use Rattle.store_records.specs.RecordJson.{tree_of_change_record}
 use Rattle.store_session.proofs.AcceptedDepths.{accepted_low}
 use Rattle.store_new.specs.ImportStores.{IsEntryText, MakesDocument}

@@ -5,7 +5,7 @@ use Rattle.lens_io.specs.Calls.{Gave}
 use Rattle.lens_io.specs.declared.disk.Disk as OfDisk
 use Rattle.lens_io.specs.declared.sink.Sink as OfSink
 use Rattle.lens_io.specs.declared.source.Source as OfSource
-use Rattle.accepted_programs.proofs.AcceptedForms.{accepted_typed}
+use Rattle.program_accepted.proofs.AcceptedForms.{accepted_typed}
 use Rattle.doc_values.specs.Documents.{DocTree}
 use Rattle.edit_inverse.specs.Construct.{construct}
 use Rattle.edit_journal.specs.EntryJson.{tree_of_text}
@@ -25,7 +25,7 @@ use Rattle.store_session.specs.WrittenStands.{one_stands}
 use Rattle.texts.specs.declared.side.Side.TheVariants.{Left}
 use Rattle.store_new.specs.NewEnds.{GivesLine, StopsAfter, Ends}
 use Rattle.store_new.specs.NewRooms.{PlanHasNoRoom, ScriptHasNoRoom}
-use Rattle.accepted_programs.specs.Program.{IsAccepted}
+use Rattle.program_accepted.specs.Program.{IsAccepted}
 use Rattle.store_new.specs.Scripts.{IsAcceptedPart, one_program}
 use Rattle.store_new.specs.NewStores.{HoldsStore, EndsMaking}
 use Rattle.command_ends.specs.declared.status.Status.{Status}

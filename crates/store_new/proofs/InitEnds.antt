@@ -5,7 +5,7 @@ use Rattle.lens_io.specs.Calls.{Gave}
 use Rattle.lens_io.specs.declared.disk.Disk as OfDisk
 use Rattle.lens_io.specs.declared.sink.Sink as OfSink
 use Rattle.lens_io.specs.declared.source.Source as OfSource
-use Rattle.accepted_programs.specs.Program.{Refusal, form_of_program}
+use Rattle.program_accepted.specs.Program.{Refusal, form_of_program}
 use Rattle.edit_journal.specs.EntryJson.{tree_of_text}
 use Rattle.lens_forms.specs.Forms.{FormTree}
 use Rattle.lens_syntax.specs.Programs.{too_long, bounded, unbounded}
@@ -25,7 +25,7 @@ use Rattle.store_new.specs.Init.{program_payload, Begins, Starts, init_command}
 use Rattle.store_new.specs.Making.{EndsPlan}
 use Rattle.store_new.specs.NewRooms.{PlanHasNoRoom, ScriptHasNoRoom}
 use Rattle.store_new.specs.InitStores.{IsFirstStore}
-use Rattle.accepted_programs.specs.Program.{IsAccepted}
+use Rattle.program_accepted.specs.Program.{IsAccepted}
 use Rattle.store_new.specs.Scripts.{IsAcceptedPart, one_program}
 use Rattle.store_new.specs.NewStores.{HoldsStore, EndsMaking}
 use Rattle.command_ends.specs.declared.status.Status.{Status}

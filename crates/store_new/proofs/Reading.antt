@@ -1,9 +1,9 @@
 -- What the reading of a script has found.
 use Rattle.std.proofs.Common.{◌≡◌, inl, inr, ℕ, ◌+◌, ◌≤◌, List, [], ◌++◌, length, true, false, Ok, Err, sym, ap, subst, ◌∙◌, append_assoc, length-append, arith}
 use Rattle.std.proofs.KnownBytes.{Consumes-trans}
-use Rattle.accepted_programs.specs.Program.{lens_of}
-use Rattle.accepted_programs.specs.Refused.{IsKnown, IsProgramRefusal}
-use Rattle.accepted_programs.specs.declared.program.Refused.{Refused}
+use Rattle.program_accepted.specs.Program.{lens_of}
+use Rattle.program_accepted.specs.Refused.{IsKnown, IsProgramRefusal}
+use Rattle.program_accepted.specs.declared.program.Refused.{Refused}
 use Rattle.lens_forms.specs.Forms.{FormTree}
 use Rattle.lens_io.specs.Calls.{Took}
 use Rattle.lens_io.specs.declared.failed.TakeFault.{TakeFault}
@@ -21,7 +21,7 @@ use Rattle.store_new.specs.Command.{PartMeaning}
 use Rattle.store_new.specs.NewEnds.{StopsAfter}
 use Rattle.store_new.specs.ScriptReading.{ReadsScript, ReadsRefused, ReadsFront}
 use Rattle.store_new.specs.Reading.{status_at}
-use Rattle.accepted_programs.specs.Program.{IsAccepted}
+use Rattle.program_accepted.specs.Program.{IsAccepted}
 use Rattle.store_new.specs.Scripts.{IsAcceptedPart, PartGoesOn, one_program}
 
 -- ---- a stop

@@ -12,7 +12,7 @@ use Rattle.script_input.specs.Lines.{program_part, journal}
 use Rattle.script_input.specs.Parts.{HoldsPart, ReadsPart, ReadsAll}
 use Rattle.script_input.specs.declared.script.ProgramText.{ProgramText}
 use Rattle.store_new.specs.ScriptReading.{ReadsFront}
-use Rattle.accepted_programs.specs.Program.{IsAccepted}
+use Rattle.program_accepted.specs.Program.{IsAccepted}
 use Rattle.store_new.specs.Scripts.{one_program}
 use Rattle.store_new.proofs.Reading.{rest_accepted, rest_stops}
 use Rattle.store_new.specs.Found.{added_all, all_fed, FindsRest, StopsRest}

@@ -3,7 +3,7 @@ use Rattle.std.proofs.Common.{◌≡◌, ℕ, List, Ok, ap, ◌∙◌}
 use Rattle.doc_values.specs.Documents.{DocTree}
 use Rattle.doc_values.specs.Types.{TyTree}
 use Rattle.edit_journal.specs.EntryJson.{tree_of_text}
-use Rattle.state_tokens.specs.Texts.{IsDocumentOf}
+use Rattle.lens_tokens.specs.Texts.{IsDocumentOf}
 use Rattle.store_new.specs.Import.{if_typed, if_json}
 
 pub document_read : (ty : TyTree) (text : List ℕ) (doc : DocTree) → IsDocumentOf ty text doc → if_json ty (tree_of_text text) ≡ Ok doc

@@ -20,8 +20,8 @@ use Rattle.edit_module.specs.Changes.{one}
 use Rattle.edit_module.specs.Words.{WordTree}
 use Rattle.edit_session.specs.Step.{TripleTree}
 use Rattle.lens_forms.specs.Forms.{FormTree, left_type}
-use Rattle.pair_answers.specs.Answers.{state_lines}
-use Rattle.pair_answers.specs.ItemRuns.{IsInStepFor, triple_at_first}
+use Rattle.run_answers.specs.Answers.{state_lines}
+use Rattle.run_answers.specs.ItemRuns.{IsInStepFor, triple_at_first}
 use Rattle.script_input.specs.declared.limits.TheConstants.{MOST_BYTES}
 use Rattle.program_terms.specs.Terms.{ProgramTree}
 use Rattle.script_input.specs.Lines.{program_part, journal}
@@ -34,7 +34,7 @@ use Rattle.texts.specs.declared.side.Side.TheVariants.{Left, Right}
 use Rattle.value_json.specs.DocumentJson.{document_of}
 use Rattle.store_new.specs.Init.{program_payload}
 use Rattle.store_new.specs.Command.{Command}
-use Rattle.accepted_programs.specs.Program.{IsAccepted}
+use Rattle.program_accepted.specs.Program.{IsAccepted}
 use Rattle.store_new.specs.Scripts.{one_program}
 use Rattle.store_new.specs.NewStores.{HoldsStore}
 use Rattle.store_new.specs.declared.refused.ImportRefusal.{ImportRefusal}

@@ -6,7 +6,7 @@ use Rattle.lens_forms.specs.Forms.{FormTree}
 use Rattle.script_input.specs.declared.limits.TheConstants.{MOST_BYTES}
 use Rattle.program_terms.specs.Terms.{ProgramTree}
 use Rattle.script_input.specs.Lines.{program_part, journal}
-use Rattle.accepted_programs.specs.Program.{IsAccepted}
+use Rattle.program_accepted.specs.Program.{IsAccepted}
 use Rattle.store_new.specs.Found.{added_all}
 use Rattle.store_new.specs.declared.document.Found.{Found}
 use Rattle.store_new.specs.declared.document.Found.TheVariants.{Nothing}

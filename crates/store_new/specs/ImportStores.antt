@@ -13,8 +13,8 @@ use Rattle.edit_module.specs.Changes.{one}
 use Rattle.edit_module.specs.Words.{WordTree}
 use Rattle.edit_session.specs.Step.{TripleTree}
 use Rattle.edit_journal.specs.EntryJson.{tree_of_text}
-use Rattle.pair_answers.specs.Answers.{state_lines}
-use Rattle.pair_answers.specs.ItemRuns.{IsInStepFor, triple_at_first}
+use Rattle.run_answers.specs.Answers.{state_lines}
+use Rattle.run_answers.specs.ItemRuns.{IsInStepFor, triple_at_first}
 use Rattle.lens_forms.specs.Forms.{FormTree, left_type}
 use Rattle.program_terms.specs.Terms.{ProgramTree}
 use Rattle.program_writing.specs.Canonical.{canonical}

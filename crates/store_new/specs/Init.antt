@@ -6,8 +6,8 @@ use Rattle.lens_io.specs.declared.sink.Sink as OfSink
 use Rattle.lens_io.specs.declared.source.Source as OfSource
 use Rattle.serde_json.specs.Written.{compact_text}
 use Rattle.lens_forms.specs.Forms.{FormTree}
-use Rattle.pair_answers.specs.Answers.{state_lines}
-use Rattle.pair_answers.specs.ItemRuns.{triple_at_first}
+use Rattle.run_answers.specs.Answers.{state_lines}
+use Rattle.run_answers.specs.ItemRuns.{triple_at_first}
 use Rattle.script_input.specs.declared.limits.TheConstants.{MOST_BYTES}
 use Rattle.program_terms.specs.Terms.{ProgramTree}
 use Rattle.program_writing.specs.Canonical.{canonical}
@@ -15,7 +15,7 @@ use Rattle.script_input.specs.Lines.{program_part}
 use Rattle.store_records.specs.RecordJson.{tree_of_program}
 use Rattle.store_session.specs.Stands.{at_start, stands}
 use Rattle.store_new.specs.Command.{Command}
-use Rattle.accepted_programs.specs.Program.{IsAccepted}
+use Rattle.program_accepted.specs.Program.{IsAccepted}
 use Rattle.store_new.specs.Scripts.{one_program}
 use Rattle.store_new.specs.NewStores.{HoldsStore}
 use Rattle.store_run.specs.Devices.{Devices}

@@ -1,8 +1,8 @@
 -- For the helpers of `init`: what it stores and writes, from its program.
 use Rattle.std.specs.Prelude.{◌≡◌, ℕ, List, [], ◌∷◌, Some}
 use Rattle.edit_journal.specs.EntryJson.{tree_of_text}
-use Rattle.pair_answers.specs.Answers.{state_lines}
-use Rattle.pair_answers.specs.ItemRuns.{triple_at_first}
+use Rattle.run_answers.specs.Answers.{state_lines}
+use Rattle.run_answers.specs.ItemRuns.{triple_at_first}
 use Rattle.lens_forms.specs.Forms.{FormTree}
 use Rattle.program_terms.specs.Terms.{ProgramTree}
 use Rattle.program_writing.specs.Canonical.{canonical}

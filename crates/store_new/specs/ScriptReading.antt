@@ -1,8 +1,8 @@
 -- For the helpers of the commands: what was read of a script, and how a refusal is written.
 use Rattle.std.specs.Prelude.{◌≡◌, ◌⊎◌, ℕ, ◌+◌, ◌≤◌, List, [], length, Result}
-use Rattle.accepted_programs.specs.Program.{lens_of}
-use Rattle.accepted_programs.specs.Refused.{IsKnown, IsProgramRefusal}
-use Rattle.accepted_programs.specs.declared.program.Refused.{Refused}
+use Rattle.program_accepted.specs.Program.{lens_of}
+use Rattle.program_accepted.specs.Refused.{IsKnown, IsProgramRefusal}
+use Rattle.program_accepted.specs.declared.program.Refused.{Refused}
 use Rattle.lens_forms.specs.Forms.{FormTree}
 use Rattle.lens_io.specs.Calls.{Took, IsRead, Gave}
 use Rattle.lens_io.specs.declared.failed.TakeFault.{TakeFault}
@@ -15,7 +15,7 @@ use Rattle.script_input.specs.Lines.{program_part}
 use Rattle.store_new.specs.Command.{PartMeaning}
 use Rattle.store_new.specs.NewEnds.{GivesLine, StopsAfter}
 use Rattle.store_new.specs.Reading.{status_at}
-use Rattle.accepted_programs.specs.Program.{IsAccepted}
+use Rattle.program_accepted.specs.Program.{IsAccepted}
 use Rattle.store_new.specs.Scripts.{IsLineBy, one_program}
 use Rattle.store_new.specs.declared.scripts.Unread.{Unread}
 use Rattle.store_new.specs.declared.scripts.Unread.TheVariants.{Refused as IsNoProgram, Stopped}

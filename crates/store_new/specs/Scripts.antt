@@ -1,6 +1,6 @@
 -- What a script says to a command that makes a store: what its program part means, or why that is refused.
 use Rattle.std.specs.Prelude.{◌≡◌, ℕ, List, Result, Ok, Err, true}
-use Rattle.accepted_programs.specs.Program.{Refusal, lens_of}
+use Rattle.program_accepted.specs.Program.{Refusal, lens_of}
 use Rattle.answer_text.specs.RefusalLines.{refused_part_line}
 use Rattle.lens_forms.specs.Forms.{FormTree}
 use Rattle.lens_io.specs.declared.source.Source as OfSource

@@ -2,16 +2,16 @@
 ghost use Rattle.std.specs.Prelude.{◌≡◌, ◌⊎◌, Result};
 ghost use Rattle.lens_io.specs.Calls.{SinkFailed};
 ghost use Rattle.lens_forms.specs.Forms.{FormTree};
-ghost use Rattle.accepted_programs.specs.Program.{Refusal};
-ghost use Rattle.accepted_programs.specs.Refused.{IsKnown, IsProgramRefusal};
+ghost use Rattle.program_accepted.specs.Program.{Refusal};
+ghost use Rattle.program_accepted.specs.Refused.{IsKnown, IsProgramRefusal};
 ghost use Rattle.store_new.specs.NewEnds.{GivesLine};
 ghost use Rattle.store_new.specs.ScriptReading.{RefusesWith};
 ghost use Rattle.store_new.specs.Scripts.{one_program};
 
-use accepted_programs::Refused;
 use answer_text::refused_part_line;
 use command_ends::Status;
 use lens_io::{Sink, give_all};
+use program_accepted::Refused;
 use std::alloc::Global;
 
 /// Writes these bytes, and ends with the status.

@@ -6,9 +6,9 @@ ghost use Rattle.program_terms.specs.Views.{program_tree};
 ghost use Rattle.store_new.specs.Reading.{status_at};
 ghost use Rattle.store_new.specs.ScriptReading.{ReadsScript, IsUnread};
 
-use accepted_programs::{Accepted, Refused};
 use command_ends::Status;
 use lens_io::{Source, TakeFault};
+use program_accepted::{Accepted, Refused};
 use script_input::{Head, accepted_part, piece_buffer, read_head, skip_rest};
 use std::alloc::Global;
 

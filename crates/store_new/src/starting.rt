@@ -8,8 +8,8 @@ ghost use Rattle.lens_core.specs.Complements.{missing};
 ghost use Rattle.lens_core.specs.Consistency.{IsConsistent};
 ghost use Rattle.lens_core.specs.LensOf.{IsLensOf};
 ghost use Rattle.lens_core.specs.Translation.{translate};
-ghost use Rattle.pair_answers.specs.Answers.{state_lines};
-ghost use Rattle.pair_answers.specs.ItemRuns.{triple_at_first};
+ghost use Rattle.run_answers.specs.Answers.{state_lines};
+ghost use Rattle.run_answers.specs.ItemRuns.{triple_at_first};
 ghost use Rattle.program_terms.specs.Views.{program_tree};
 ghost use Rattle.store_new.specs.NewEnds.{Completes, Ends, KeepsStore, RefusesAtOnce};
 ghost use Rattle.store_new.specs.Init.{Starts, init_command};
@@ -21,13 +21,13 @@ ghost use Rattle.store_run.specs.Devices.{devices_of};
 
 use crate::scripts::status_at;
 use crate::{LOG_EXISTS, StoreText, Unread, give_line, make_store, read_script, refuse_program};
-use accepted_programs::Accepted;
 use command_ends::Status;
 use edit_session::Session;
 use lens_flat::Flat;
 use lens_io::{Disk, Payloads, Sink, Source};
 use lens_types::Typed;
-use pair_answers::state_lines;
+use program_accepted::Accepted;
+use run_answers::state_lines;
 use std::alloc::{AllocError, Global};
 use store_records::program_payload;
 

@@ -12,8 +12,8 @@ use Rattle.edit_module.specs.Changes.{ChangeTree, one, group}
 use Rattle.edit_journal.specs.EntryJson.{LineFault, array_items, entry_of_tree, as_change, change_of_parts, change_of_tree}
 use Rattle.json_tokens.specs.TreesAt.{read_at}
 use Rattle.json_tokens.proofs.ReadParts.{read_as, one_member_read}
-use Rattle.change_tokens.specs.Changes as journal
-use Rattle.change_tokens.proofs.ReadingChanges.{one_read}
+use Rattle.edit_tokens.specs.Changes as journal
+use Rattle.edit_tokens.proofs.ReadingChanges.{one_read}
 use Rattle.store_records.specs.RecordJson.{RecordTree, change_record, snapshot_record, single_entry, any_change, change_in, version_in, snapshot_in, record_of}
 
 ok_is : (r : Result ChangeTree LineFault) (change : ChangeTree) → result_ok r ≡ Some change → r ≡ Ok change

@@ -8,7 +8,7 @@ use Rattle.lens_types.specs.Checking.{first_failure}
 use Rattle.lens_types.specs.Faults.{IsFaultOf}
 use Rattle.lens_types.specs.declared.fault.TypeFault.{TypeFault}
 use Rattle.lens_types.specs.declared.fault.TypeFault.TheVariants as types
-use Rattle.accepted_programs.specs.Program.{form_of_program, form_without_failure}
+use Rattle.program_accepted.specs.Program.{form_of_program, form_without_failure}
 use Rattle.store_records.specs.StoredLens.{accepted}
 
 -- a text that the reader refuses has no lens

@@ -4,7 +4,7 @@ use Rattle.std.specs.Prelude.{ℕ, List, [], ◌∷◌, Option, Some, None, opti
 use Rattle.edit_journal.specs.EntryJson.{tree_of_text}
 use Rattle.lens_forms.specs.Forms.{FormTree}
 use Rattle.lens_syntax.specs.Programs.{unbounded}
-use Rattle.accepted_programs.specs.Program.{Refusal, form_of_program}
+use Rattle.program_accepted.specs.Program.{Refusal, form_of_program}
 use Rattle.store_records.specs.RecordJson.{opening_of}
 
 -- the lens, where the grammar and the typing accept the program

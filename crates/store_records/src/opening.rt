@@ -2,7 +2,7 @@
 
 ghost use Rattle.std.specs.Prelude.{◌≡◌, IfOk, MatchResult, Ok, Some, option_and_then, option_map};
 ghost use Rattle.lens_forms.specs.Forms.{form_tree};
-ghost use Rattle.accepted_programs.specs.Program.{form_of_program};
+ghost use Rattle.program_accepted.specs.Program.{form_of_program};
 ghost use Rattle.program_terms.specs.Views.{program_tree};
 ghost use Rattle.serde_json.specs.View.{view};
 ghost use Rattle.store_records.specs.RecordOutcomes.{IsBadFirst};

@@ -18,11 +18,11 @@ ghost use Rattle.store_records.specs.StoredLens.{opening_of_payload};
 ghost use Rattle.store_records.specs.SnapshotsTaken.{IsSnapshotOf, TakesParts, TakesSnapshot};
 
 use crate::parts::VERSION;
-use change_tokens::{take_entry, take_group};
 use complement_file::take_comp;
 use doc_tokens::{take_doc, take_number};
 use edit_module::{Change, Entries, Entry};
 use edit_session::Triple;
+use edit_tokens::{take_entry, take_group};
 use json::{Reader, Scratch};
 use json_tokens::{
     closes_object, is_at_end, next_key, opens_object, take_key, take_text, takes_key,

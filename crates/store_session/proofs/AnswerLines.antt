@@ -18,8 +18,8 @@ use Rattle.edit_session.specs.Step.{TripleTree}
 use Rattle.edit_session.specs.Run.{carried, no_apply, group_carried, group_no_apply, no_entry, is_refused}
 use Rattle.answer_text.specs.Reasons.{cause_text, fault_text}
 use Rattle.answer_text.specs.Lines.{tree_line}
-use Rattle.pair_answers.specs.Answers.{answer_line}
-use Rattle.pair_answers.specs.ItemRuns.{JournalItem, JournalAnswer}
+use Rattle.run_answers.specs.Answers.{answer_line}
+use Rattle.run_answers.specs.ItemRuns.{JournalItem, JournalAnswer}
 use Rattle.lens_forms.specs.Forms.{left_type, right_type}
 use Rattle.store_run.specs.OkLines.{IsLine, IsAnswer, AreOtherLines, begins_ok}
 use Rattle.store_run.specs.declared.session.StoredAnswer.{StoredAnswer}

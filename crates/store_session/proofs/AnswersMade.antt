@@ -16,7 +16,7 @@ use Rattle.edit_journal.specs.declared.fault.EntryFault.TheVariants.{LineTooLong
 use Rattle.edit_session.specs.Run.{answered, group_answered}
 use Rattle.edit_session.specs.Step.{TripleTree, Stepped, AllStepped, step, step_each, alone}
 use Rattle.answer_text.specs.Lines.{ok_line, no_apply_line, group_line, group_refused_line, fault_line}
-use Rattle.pair_answers.specs.ItemRuns.{JournalItem, JournalAnswer}
+use Rattle.run_answers.specs.ItemRuns.{JournalItem, JournalAnswer}
 use Rattle.lens_core.specs.Translation.{translate}
 use Rattle.lens_forms.specs.Forms.{FormTree, left_type, right_type}
 use Rattle.lens_forms.specs.declared.limits.TheConstants.{GREATEST_HEIGHT}

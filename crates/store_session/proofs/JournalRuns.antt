@@ -7,8 +7,8 @@ use Rattle.edit_journal.specs.Lines.{is_blank}
 use Rattle.edit_journal.specs.declared.line.Line.{Line}
 use Rattle.edit_session.specs.Run.{is_refused}
 use Rattle.edit_session.specs.Step.{TripleTree}
-use Rattle.pair_answers.specs.Answers.{answer_line}
-use Rattle.pair_answers.specs.ItemRuns.{JournalItem, JournalAnswer, IsInStepFor, items_of}
+use Rattle.run_answers.specs.Answers.{answer_line}
+use Rattle.run_answers.specs.ItemRuns.{JournalItem, JournalAnswer, IsInStepFor, items_of}
 use Rattle.lens_forms.specs.Typing.{is_typed}
 use Rattle.store_run.specs.StoreRuns.{run_in_store, kept_of, any_line_refused}
 use Rattle.store_run.specs.declared.session.StoredAnswer.{StoredAnswer}

@@ -11,8 +11,8 @@ use Rattle.edit_journal.specs.EntryJson.{LineFault}
 use Rattle.edit_session.specs.Run.{answered, group_answered, take_item}
 use Rattle.edit_session.specs.Step.{TripleTree, Stepped, AllStepped, alone, step}
 use Rattle.edit_session.proofs.RunInStep.{runs_stay_in_step}
-use Rattle.form_steps.specs.LawsOfForms.{form_starts, form_edits}
-use Rattle.pair_answers.specs.ItemRuns.{JournalItem, JournalAnswer, IsInStepFor}
+use Rattle.lens_steps.specs.LawsOfForms.{form_starts, form_edits}
+use Rattle.run_answers.specs.ItemRuns.{JournalItem, JournalAnswer, IsInStepFor}
 use Rattle.lens_core.specs.Consistency.{IsConsistent}
 use Rattle.lens_core.specs.Translation.{translate}
 use Rattle.lens_forms.specs.Forms.{FormTree, left_type, right_type}

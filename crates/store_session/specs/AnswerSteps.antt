@@ -13,7 +13,7 @@ use Rattle.edit_journal.specs.declared.line.Line.TheVariants.{Text, TooLong}
 use Rattle.edit_journal.proofs.Groups.{change_writes_back}
 use Rattle.edit_session.specs.Run.{answered, group_answered, is_refused, no_entry}
 use Rattle.edit_session.specs.Step.{TripleTree, Stepped, AllStepped, alone, step, step_each}
-use Rattle.pair_answers.specs.ItemRuns.{JournalItem, JournalAnswer}
+use Rattle.run_answers.specs.ItemRuns.{JournalItem, JournalAnswer}
 use Rattle.lens_core.specs.Translation.{translate}
 use Rattle.lens_forms.specs.Forms.{left_type, right_type}
 use Rattle.store_run.specs.declared.session.StoredAnswer.{StoredAnswer}

@@ -10,9 +10,9 @@ use Rattle.lens_forms.specs.Forms.{FormTree, left_type, right_type}
 use Rattle.lens_forms.specs.Typing.{is_typed}
 use Rattle.lens_core.specs.Complements.{CompTree}
 use Rattle.lens_core.specs.Consistency.{IsConsistent}
-use Rattle.image_laws.specs.Patterns.{PatternTree, pattern_of}
-use Rattle.image_laws.specs.Image.{image}
-use Rattle.image_laws.proofs.ExactImages.{decides_consistency}
+use Rattle.law_images.specs.Patterns.{PatternTree, pattern_of}
+use Rattle.law_images.specs.Image.{image}
+use Rattle.law_images.proofs.ExactImages.{decides_consistency}
 use Rattle.lens_check.specs.FitTest.{fits}
 use Rattle.lens_check.specs.MatchTest.{is_match}
 use Rattle.lens_check.specs.TypedTriples.{AreTyped}

@@ -5,8 +5,8 @@ use Rattle.doc_values.specs.Documents.{DocTree}
 use Rattle.doc_values.specs.Typing.{has}
 use Rattle.lens_forms.specs.Forms.{FormTree, left_type, right_type}
 use Rattle.lens_core.specs.Complements.{CompTree}
-use Rattle.image_laws.specs.Patterns.{PatternTree, pattern_of}
-use Rattle.image_laws.specs.Image.{image}
+use Rattle.law_images.specs.Patterns.{PatternTree, pattern_of}
+use Rattle.law_images.specs.Image.{image}
 use Rattle.lens_check.specs.FitTest.{fits}
 use Rattle.lens_check.specs.MatchTest.{is_match}
 

@@ -8,8 +8,8 @@ use Rattle.edit_journal.specs.declared.line.Line.{Line}
 use Rattle.edit_session.specs.Step.{TripleTree}
 use Rattle.edit_session.specs.Run as journals
 use Rattle.edit_session.specs.Run.{is_refused}
-use Rattle.pair_answers.specs.Answers.{answer_lines}
-use Rattle.pair_answers.specs.ItemRuns.{JournalItem, JournalAnswer, IsInStepFor, items_of, run_from}
+use Rattle.run_answers.specs.Answers.{answer_lines}
+use Rattle.run_answers.specs.ItemRuns.{JournalItem, JournalAnswer, IsInStepFor, items_of, run_from}
 use Rattle.store_run.specs.StoreRuns.{text_of, kept_of, any_line_refused, last_stored}
 use Rattle.store_run.specs.declared.session.StoredAnswer.{StoredAnswer}
 use Rattle.store_session.specs.StoredStates.{StoredState, state_with, change_text}

@@ -10,8 +10,8 @@ use Rattle.edit_journal.specs.EntryJson.{change_of_line, tree_of_text}
 use Rattle.edit_journal.specs.declared.line.Line.{Line}
 use Rattle.edit_session.specs.Step.{TripleTree}
 use Rattle.edit_session.specs.Run.{is_refused, take_item}
-use Rattle.pair_answers.specs.Answers as lines
-use Rattle.pair_answers.specs.ItemRuns.{JournalItem, JournalAnswer, IsInStepFor}
+use Rattle.run_answers.specs.Answers as lines
+use Rattle.run_answers.specs.ItemRuns.{JournalItem, JournalAnswer, IsInStepFor}
 use Rattle.lens_core.specs.Translation.{translate}
 use Rattle.lens_forms.specs.Forms.{FormTree, left_type, right_type}
 use Rattle.store_records.specs.RecordJson.{tree_of_version, tree_of_change_record, tree_of_snapshot}

@@ -11,7 +11,7 @@ use Rattle.lens_types.specs.Sound.{is_sound}
 use Rattle.lens_types.specs.Checking.{Failure, def_failure, failure_after, first_failure}
 use Rattle.lens_types.specs.Earlier.{Definitions, known_of, all_known, expanded_form, main_form}
 use Rattle.lens_types.proofs.SoundForms.{are_sound, sound_more, lens_sound, def_sound, none_both}
-use Rattle.accepted_programs.specs.Program.{form_without_failure, form_of_program}
+use Rattle.program_accepted.specs.Program.{form_without_failure, form_of_program}
 use Rattle.edit_session.specs.Step.{TripleTree, AllStepped}
 use Rattle.store_records.specs.RecordJson.{RecordTree, version_record, change_record, snapshot_record}
 use Rattle.store_records.specs.StoredLens.{accepted, form_of_text, with_form, opening_of_payload, lens_and_version}

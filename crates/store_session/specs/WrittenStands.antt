@@ -13,12 +13,12 @@ use Rattle.lens_forms.specs.Forms.{FormTree, left_type, right_type}
 use Rattle.lens_forms.specs.Typing.{is_typed}
 use Rattle.complement_file.specs.ComplementJson.{tree_of_complement}
 use Rattle.lens_core.specs.Consistency.{IsConsistent}
-use Rattle.image_laws.proofs.ExactImages.{decides_consistency}
+use Rattle.law_images.proofs.ExactImages.{decides_consistency}
 use Rattle.program_terms.specs.Terms.{ProgramTree}
 use Rattle.program_writing.specs.Canonical.{canonical}
 use Rattle.lens_syntax.specs.Programs.{unbounded}
 use Rattle.lens_syntax.proofs.GrammarAnswers.{read_again}
-use Rattle.accepted_programs.specs.Program.{form_of_program}
+use Rattle.program_accepted.specs.Program.{form_of_program}
 use Rattle.edit_session.specs.Step.{TripleTree, AllStepped}
 use Rattle.serde_json.specs.Data.{Data}
 use Rattle.store_records.specs.RecordJson.{version_record, change_record, snapshot_record, tree_of_program}

@@ -12,7 +12,7 @@ ghost use Rattle.edit_journal.specs.EntryJson.{change_counts_fit};
 ghost use Rattle.edit_journal.specs.Reading.{cause_of, IsRefused};
 ghost use Rattle.edit_journal.specs.declared.fault.EntryFault;
 ghost use Rattle.edit_session.specs.Step.{TripleTree};
-ghost use Rattle.pair_answers.specs.ItemRuns.{JournalItem};
+ghost use Rattle.run_answers.specs.ItemRuns.{JournalItem};
 ghost use Rattle.lens_forms.specs.Forms.{FormTree, form_tree, left_type, right_type};
 ghost use Rattle.lens_forms.specs.declared.limits.TheConstants.{GREATEST_HEIGHT};
 ghost use Rattle.store_records.specs.RecordJson.{tree_of_change_record};
@@ -21,10 +21,10 @@ ghost use Rattle.store_session.specs.StoredStates.{answer, answer_item, change_t
 ghost use Rattle.store_session.specs.SessionStates.{session_state};
 
 use answer_text::{fault_line, group_line, group_refused_line, no_apply_line, ok_line};
-use change_tokens::read_line;
 use edit_journal::{EntryFault, Line};
 use edit_module::{Change, Entry};
 use edit_session::{GroupFault, Session, StepFault};
+use edit_tokens::read_line;
 use json::Scratch;
 use lens_flat::Flat;
 use std::alloc::{AllocError, Global};

@@ -7,7 +7,7 @@ ghost use Rattle.store_session.specs.SessionStates.{session_state};
 
 use edit_session::Session;
 use lens_flat::Flat;
-use pair_answers::state_lines;
+use run_answers::state_lines;
 use std::alloc::{AllocError, Global};
 use texts::Bytes;
 

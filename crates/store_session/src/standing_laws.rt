@@ -19,7 +19,7 @@ ghost use Rattle.lens_core.specs.Complements.{CompTree};
 ghost use Rattle.program_terms.specs.Terms.{ProgramTree};
 ghost use Rattle.program_writing.specs.Canonical.{canonical};
 ghost use Rattle.lens_syntax.specs.Programs.{unbounded};
-ghost use Rattle.accepted_programs.specs.Program.{form_of_program};
+ghost use Rattle.program_accepted.specs.Program.{form_of_program};
 ghost use Rattle.store_records.specs.RecordJson.{record_in, tree_of_first_program, tree_of_program};
 ghost use Rattle.store_records.specs.RecordJson.{tree_of_change_record};
 ghost use Rattle.store_session.specs.ConsistencyTest.{is_consistent};

@@ -18,7 +18,7 @@ use Rattle.edit_journal.specs.EntryJson.{tree_of_text}
 use Rattle.edit_session.specs.Step.{TripleTree}
 use Rattle.complement_file.specs.ComplementJson.{tree_of_complement}
 use Rattle.value_json.specs.DocumentJson.{tree_of_document}
-use Rattle.pair_answers.specs.Answers.{state_lines}
+use Rattle.run_answers.specs.Answers.{state_lines}
 use Rattle.lens_forms.specs.Forms.{FormTree, left_type, right_type}
 use Rattle.value_json.specs.SmallTrees.{one_member}
 use Rattle.store_records.proofs.PayloadTrees.{string_read}

@@ -3,7 +3,7 @@
 use Rattle.std.specs.Prelude.{◌≡◌, ℕ, ◌-◌, List, ◌++◌, length, take, codes, nat_lt, if◌then◌else◌, Option, Some, Ok}
 use Rattle.edit_json.specs.WordJson.{tree_of_word}
 use Rattle.answer_text.specs.Lines.{tree_line}
-use Rattle.pair_answers.specs.Answers.{state_lines}
+use Rattle.run_answers.specs.Answers.{state_lines}
 use Rattle.edit_module.specs.Changes.{ChangeTree}
 use Rattle.lens_core.specs.Consistency.{IsConsistent}
 use Rattle.lens_core.specs.Translation.{translate}

@@ -5,7 +5,7 @@ use Rattle.std.specs.Prelude.{option_to_list, Ok}
 use Rattle.serde_json.specs.Written.{compact_text}
 use Rattle.edit_json.specs.WordJson.{tree_of_word}
 use Rattle.answer_text.specs.Lines.{tree_line}
-use Rattle.pair_answers.specs.Answers.{state_lines}
+use Rattle.run_answers.specs.Answers.{state_lines}
 use Rattle.lens_forms.specs.Forms.{left_type, right_type}
 use Rattle.lens_core.specs.Consistency.{IsConsistent}
 use Rattle.store_session.specs.StoredStates as states

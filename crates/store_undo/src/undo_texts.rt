@@ -7,7 +7,7 @@ ghost use Rattle.edit_module.specs.Views.{word_tree};
 ghost use Rattle.edit_session.specs.Step.{TripleTree};
 ghost use Rattle.edit_session.specs.Views.{triple_tree};
 ghost use Rattle.answer_text.specs.Lines.{tree_line};
-ghost use Rattle.pair_answers.specs.Answers.{state_lines};
+ghost use Rattle.run_answers.specs.Answers.{state_lines};
 ghost use Rattle.lens_forms.specs.Forms.{FormTree, form_tree};
 ghost use Rattle.store_session.specs.StoredStates.{HasSnapshot, snapshot_text, state_with};
 ghost use Rattle.store_undo.specs.Making.{AreTexts};

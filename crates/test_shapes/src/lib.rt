@@ -1,4 +1,4 @@
-//! Tests of `texts`, `text_bridges`, `bridge_links`, `hold_shapes`, `shape_laws` and `list_bridges`: each call that
+//! Tests of `texts`, `bridge_texts`, `bridge_links`, `hold_shapes`, `law_shapes` and `bridge_lists`: each call that
 //! allocates, once over ample memory with what it returned compared, and each generic call once at a concrete type.
 //! What an edit of a list is for a list that was edited meanwhile is told by rows.
 //!

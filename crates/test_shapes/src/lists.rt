@@ -1,8 +1,8 @@
 //! Edits of lists that are carried: each row, and each public call that no row makes, once.
 use crate::list_rows::{CARRIED, CHANGED, REFUSED, Step};
 use bridge_links::{Link, Links};
+use bridge_lists::{CarriedEdits, CarryFault, ListBridge};
 use hold_shapes::{Places, ShapeEdit};
-use list_bridges::{CarriedEdits, CarryFault, ListBridge};
 use std::alloc::{AllocError, Global};
 use texts::Name;
 

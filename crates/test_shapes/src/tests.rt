@@ -7,14 +7,14 @@ ghost use Rattle.hold_shapes.specs.Shapes.{size_of};
 ghost use Rattle.hold_shapes.specs.Plans.{plan as plan_of};
 ghost use Rattle.hold_shapes.specs.Gather.{content_at};
 
+use bridge_texts::{Splice, TextBridge};
 use hold_shapes::{
     DepthSeq, Held, KeyedShape, ListShape, Origin, Origins, Path, Place, PlanFault, Shape,
     ShapeEdit, TreeShape, gather,
 };
-use shape_laws::plans_are_lawful;
+use law_shapes::plans_are_lawful;
 use shared_lists::{Hint, SharedList};
 use std::alloc::{AllocError, Global};
-use text_bridges::{Splice, TextBridge};
 use texts::{Name, Names, Str, Twin, twin_all};
 
 // Values of many variants are let go by `drop`, in one call. At the end of a block they would be dropped variant by

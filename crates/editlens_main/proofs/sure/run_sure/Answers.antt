@@ -3,8 +3,8 @@ use Rattle.hub_run.specs.HubScript.{hub_script}
 use Rattle.lens_io.specs.contracts.mem_sink.SureSinkSink.TheImpl.{ghosts as sure_sink}
 use Rattle.lens_io.specs.contracts.mem_source.SureSourceSource.TheImpl.{ghosts as sure_source}
 use Rattle.lens_io.specs.contracts.sure_disk.SureDiskDisk.TheImpl.{ghosts as sure_disk}
-use Rattle.link_run.specs.LinkScript.{link_script}
-use Rattle.pair_run.specs.Scripts.{pair_script, types_script}
+use Rattle.run_link.specs.LinkScript.{link_script}
+use Rattle.run_pair.specs.Scripts.{pair_script, types_script}
 use Rattle.store_new.proofs.ImportEnds as imported
 use Rattle.store_new.specs.Import.{import_command}
 use Rattle.store_new.proofs.InitEnds.{accepts, refuses}

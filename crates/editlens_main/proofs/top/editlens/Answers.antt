@@ -5,10 +5,10 @@ use Rattle.editlens_main.specs.Shows.{text_shown, verified}
 use Rattle.editlens_main.specs.Statuses.{MayEnd}
 use Rattle.hub_run.proofs.FormsInStep.{accepted_in_step}
 use Rattle.hub_run.specs.HubScript.{hub_script}
-use Rattle.link_run.specs.RunsInTurns.{every_run as every_link}
-use Rattle.link_run.specs.LinkScript.{link_script}
-use Rattle.pair_run.specs.RunsInStep.{every_run, every_check}
-use Rattle.pair_run.specs.Scripts.{pair_script, types_script}
+use Rattle.run_link.specs.RunsInTurns.{every_run as every_link}
+use Rattle.run_link.specs.LinkScript.{link_script}
+use Rattle.run_pair.specs.RunsInStep.{every_run, every_check}
+use Rattle.run_pair.specs.Scripts.{pair_script, types_script}
 use Rattle.editlens_main.proofs.OrderClauses.{not_none, at_order, never_script, never_gen, never_init, never_import, never_apply, never_pack, never_undo, never_view}
 use Rattle.editlens_main.proofs.Statuses.{memory_may_end}
 use Rattle.editlens_main.proofs.top.editlens.Goals as goal

@@ -1,5 +1,5 @@
 use Rattle.hub_run.specs.HubScript.{hub_script}
-use Rattle.script_run.proofs.Complete.{complete, ends_among}
+use Rattle.run_scripts.proofs.Complete.{complete, ends_among}
 use Rattle.hub_run.proofs.script.run_hub.Goals as goal
 
 pub returns-clause-completes : goal.returns-clause-completes

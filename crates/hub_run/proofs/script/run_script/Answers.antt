@@ -1,9 +1,9 @@
 use Rattle.std.proofs.Common.{sym, subst, ap, ◌∙◌}
 use Rattle.script_input.specs.Lines.{program_part}
 use Rattle.script_input.proofs.Heads.{part_within}
-use Rattle.script_run.specs.LineStops.{status_of}
-use Rattle.script_run.specs.ScriptEnds.{Ended}
-use Rattle.script_run.proofs.ScriptEndsHold.{ended_never, ended_head, ended_alone}
+use Rattle.run_scripts.specs.LineStops.{status_of}
+use Rattle.run_scripts.specs.ScriptEnds.{Ended}
+use Rattle.run_scripts.proofs.ScriptEndsHold.{ended_never, ended_head, ended_alone}
 use Rattle.hub_run.specs.HubHeads.{HasPieces}
 use Rattle.hub_run.specs.HubScript.{hub_script}
 use Rattle.hub_run.proofs.FormsInStep.{accepted_in_step}

@@ -1,5 +1,5 @@
 use Rattle.std.proofs.Common.{None}
-use Rattle.accepted_programs.specs.Program.{lens_of}
+use Rattle.program_accepted.specs.Program.{lens_of}
 use Rattle.hub_run.proofs.ViewsRead.{first_found}
 use Rattle.hub_run.proofs.views.first_view.Goals as goal
 

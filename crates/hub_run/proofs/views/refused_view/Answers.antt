@@ -1,5 +1,5 @@
 use Rattle.std.proofs.Common.{subst}
-use Rattle.accepted_programs.specs.Refused.{IsProgramRefusal}
+use Rattle.program_accepted.specs.Refused.{IsProgramRefusal}
 use Rattle.hub_run.proofs.FoundViews.{view_syntax, view_typing}
 use Rattle.hub_run.proofs.views.refused_view.Goals as goal
 

@@ -1,5 +1,5 @@
 use Rattle.std.proofs.Common.{Some}
-use Rattle.accepted_programs.specs.Program.{lens_of}
+use Rattle.program_accepted.specs.Program.{lens_of}
 use Rattle.doc_values.specs.Types.{ty_tree}
 use Rattle.hub_run.proofs.ViewsRead.{view_found}
 use Rattle.hub_run.proofs.views.view_with_left.Goals as goal

@@ -3,8 +3,8 @@ use Rattle.texts.specs.declared.side.Side.TheVariants.{Left}
 use Rattle.doc_values.specs.Documents.{doc_tree}
 use Rattle.lens_forms.specs.Forms.{FormTree, form_tree}
 use Rattle.lens_core.specs.Complements.{comp_tree}
-use Rattle.image_laws.specs.Patterns.{PatternTree, pattern_tree, pattern_of}
-use Rattle.image_laws.specs.Image.{image}
+use Rattle.law_images.specs.Patterns.{PatternTree, pattern_tree, pattern_of}
+use Rattle.law_images.specs.Image.{image}
 use Rattle.lens_check.proofs.Decisions.{judged_by_image}
 use Rattle.lens_check.proofs.decision.is_reached.Goals as goal
 

@@ -3,7 +3,7 @@ use Rattle.std.specs.List.{range_with_len}
 use Rattle.std.proofs.lemmas.List.{length-map}
 use Rattle.doc_values.specs.Types.{fields_tree, names_of}
 use Rattle.lens_forms.specs.Forms.{sorted, lists_of}
-use Rattle.image_laws.specs.Patterns.{pattern_tree, patterns_tree}
+use Rattle.law_images.specs.Patterns.{pattern_tree, patterns_tree}
 use Rattle.lens_check.specs.PartLists.{list_of, field_pattern, item_at}
 use Rattle.lens_check.proofs.PartItems.{image_joined, lists_long}
 use Rattle.lens_check.proofs.image_part.joined_image.Goals as goal

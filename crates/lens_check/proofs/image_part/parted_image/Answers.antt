@@ -1,8 +1,8 @@
 use Rattle.std.proofs.Common.{map, option_map, ap, sym, ◌∙◌}
 use Rattle.doc_values.specs.Types.{fields_tree}
 use Rattle.lens_forms.specs.Forms.{sorted, lists_of}
-use Rattle.image_laws.specs.Patterns.{pattern_tree, patterns_tree}
-use Rattle.image_laws.specs.PartImage.{patterns_in_list}
+use Rattle.law_images.specs.Patterns.{pattern_tree, patterns_tree}
+use Rattle.law_images.specs.PartImage.{patterns_in_list}
 use Rattle.lens_check.specs.PartLists.{trees_in}
 use Rattle.lens_check.proofs.PartContents.{image_made}
 use Rattle.lens_check.proofs.image_part.parted_image.Goals as goal

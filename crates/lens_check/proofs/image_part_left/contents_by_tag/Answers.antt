@@ -1,8 +1,8 @@
 use Rattle.std.proofs.Common.{◌<◌, length, map, option_map, ap, sym, ◌∙◌, arith}
 use Rattle.doc_values.specs.Types.{fields_tree}
 use Rattle.lens_core.specs.Tags.{tag_count}
-use Rattle.image_laws.specs.Patterns.{hole, pattern_list, pattern_tree, patterns_tree}
-use Rattle.image_laws.proofs.PatternLists.{pattern_count-length}
+use Rattle.law_images.specs.Patterns.{hole, pattern_list, pattern_tree, patterns_tree}
+use Rattle.law_images.proofs.PatternLists.{pattern_count-length}
 use Rattle.lens_check.specs.PartLists.{trees_in, lists_by_tag}
 use Rattle.lens_check.proofs.PartCounts.{below_at}
 use Rattle.lens_check.proofs.PartNames.{count_is}

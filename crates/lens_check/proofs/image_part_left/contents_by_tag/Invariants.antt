@@ -1,8 +1,8 @@
 use Rattle.std.proofs.Common.{◌≡◌, map, length, drop, option_map}
 use Rattle.doc_values.specs.Types.{fields_tree}
 use Rattle.lens_core.specs.Tags.{tag_count}
-use Rattle.image_laws.specs.Patterns.{pattern_list, patterns_tree}
-use Rattle.image_laws.specs.PartImage.{content_patterns}
+use Rattle.law_images.specs.Patterns.{pattern_list, patterns_tree}
+use Rattle.law_images.specs.PartImage.{content_patterns}
 use Rattle.lens_check.specs.PartLists.{trees_in, lists_by_tag}
 use Rattle.lens_check.proofs.PartContents.{left_items}
 use Rattle.lens_check.proofs.image_part_left.contents_by_tag.Given as goal

@@ -1,8 +1,8 @@
 use Rattle.std.proofs.Common.{◌≡◌, ◌∙◌, rules}
 use Rattle.hold_shapes.specs.declared.shape.Shape.TheVariants.{List as ListOf}
-use Rattle.image_laws.specs.declared.pattern.Pattern.{Hold, the_lemmas as pattern_lemmas}
-use Rattle.image_laws.specs.Patterns.{pattern_tree, patterns_tree}
-use Rattle.image_laws.specs.PartImage.{list_pattern}
+use Rattle.law_images.specs.declared.pattern.Pattern.{Hold, the_lemmas as pattern_lemmas}
+use Rattle.law_images.specs.Patterns.{pattern_tree, patterns_tree}
+use Rattle.law_images.specs.PartImage.{list_pattern}
 use Rattle.lens_check.proofs.PartRecords.{copied_is}
 use Rattle.lens_check.proofs.image_part_left.copied_list.Goals as goal
 

@@ -1,7 +1,7 @@
 use Rattle.std.proofs.Common.{◌≡◌, ◌<◌, length, map, arith}
 use Rattle.std.proofs.lemmas.Result.{IfOk-weaker}
 use Rattle.doc_values.specs.Types.{fields_tree}
-use Rattle.image_laws.specs.Patterns.{pattern_tree}
+use Rattle.law_images.specs.Patterns.{pattern_tree}
 use Rattle.lens_check.specs.PartLists.{trees_of, list_of, list_at_tag}
 use Rattle.lens_check.proofs.PartRecords.{list_read}
 use Rattle.lens_check.proofs.image_part_left.list_at_tag.Goals as goal

@@ -1,7 +1,7 @@
 use Rattle.std.proofs.Common.{map, length, ap, ◌∙◌}
 use Rattle.doc_values.specs.Types.{fields_tree}
 use Rattle.lens_forms.specs.Forms.{sorted, lists_of}
-use Rattle.image_laws.specs.Patterns.{patterns_tree}
+use Rattle.law_images.specs.Patterns.{patterns_tree}
 use Rattle.lens_check.specs.PartLists.{trees_in, trees_of, list_at_tag}
 use Rattle.lens_check.proofs.PartNames.{tree_of_record}
 use Rattle.lens_check.proofs.PartRecords.{shared_many, fields_kept, record_made}

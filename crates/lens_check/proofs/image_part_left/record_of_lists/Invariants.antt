@@ -1,6 +1,6 @@
 use Rattle.std.proofs.Common.{◌≡◌, map, take}
 use Rattle.doc_values.specs.Types.{fields_tree}
-use Rattle.image_laws.specs.Patterns.{pattern_tree}
+use Rattle.law_images.specs.Patterns.{pattern_tree}
 use Rattle.lens_check.specs.PartLists.{trees_of, list_at_tag}
 use Rattle.lens_check.proofs.image_part_left.record_of_lists.Given as goal
 

@@ -1,6 +1,6 @@
 use Rattle.std.proofs.Common.{◌≡◌, map}
 use Rattle.std.proofs.lemmas.Result.{IfOk-weaker}
-use Rattle.image_laws.specs.Patterns.{pattern_tree, patterns_tree, patterns_from}
+use Rattle.law_images.specs.Patterns.{pattern_tree, patterns_tree, patterns_from}
 use Rattle.lens_check.specs.PartLists.{trees_in, trees_of}
 use Rattle.lens_check.proofs.PartRecords.{shared_is}
 use Rattle.lens_check.proofs.image_part_left.shared_list.Goals as goal

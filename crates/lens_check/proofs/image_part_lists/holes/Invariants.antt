@@ -1,5 +1,5 @@
 use Rattle.std.proofs.Common.{◌≡◌, map, replicate}
-use Rattle.image_laws.specs.Patterns.{hole, pattern_tree}
+use Rattle.law_images.specs.Patterns.{hole, pattern_tree}
 use Rattle.lens_check.proofs.image_part_lists.holes.Given as goal
 
 abbrev pub invariant-loop : goal.invariant-loop

@@ -1,6 +1,6 @@
 use Rattle.std.proofs.Common.{◌≡◌, ◌<◌, length, ap, ◌∙◌, arith, rules}
-use Rattle.image_laws.specs.declared.pattern.Pattern.{Alt, the_lemmas as pattern_lemmas}
-use Rattle.image_laws.specs.Patterns.{alt_pattern, pattern_tree}
+use Rattle.law_images.specs.declared.pattern.Pattern.{Alt, the_lemmas as pattern_lemmas}
+use Rattle.law_images.specs.Patterns.{alt_pattern, pattern_tree}
 use Rattle.lens_check.proofs.PartCounts.{below_at}
 use Rattle.lens_check.proofs.PartItems.{item_made}
 use Rattle.lens_check.proofs.image_part_right.item_at.Goals as goal

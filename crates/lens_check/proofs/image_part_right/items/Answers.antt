@@ -2,7 +2,7 @@ use Rattle.std.proofs.Common.{map, ap, sym, ◌∙◌, subst}
 use Rattle.std.specs.Prelude.{IsTrue}
 use Rattle.doc_values.specs.Types.{fields_tree}
 use Rattle.tag_seq.specs.Tags.{are_below}
-use Rattle.image_laws.specs.Patterns.{patterns_tree}
+use Rattle.law_images.specs.Patterns.{patterns_tree}
 use Rattle.lens_check.specs.PartLists.{item_at}
 use Rattle.lens_check.proofs.PartNames.{count_is}
 use Rattle.lens_check.proofs.PartItems.{items_kept}

@@ -1,7 +1,7 @@
 use Rattle.std.proofs.Common.{◌≡◌, map}
 use Rattle.std.specs.List.{range_with_len}
 use Rattle.doc_values.specs.Types.{fields_tree}
-use Rattle.image_laws.specs.Patterns.{pattern_tree, patterns_tree}
+use Rattle.law_images.specs.Patterns.{pattern_tree, patterns_tree}
 use Rattle.lens_check.specs.PartLists.{item_at}
 use Rattle.lens_check.proofs.image_part_right.items.Given as goal
 

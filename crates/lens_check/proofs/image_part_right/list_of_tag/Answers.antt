@@ -1,7 +1,7 @@
 use Rattle.std.proofs.Common.{◌≡◌, ◌≤◌, Some, option_map, ap, ◌∙◌, arith}
 use Rattle.std.proofs.lemmas.Result.{IfOk-weaker}
-use Rattle.image_laws.specs.Patterns.{hole, pattern_tree, patterns_tree, pattern_count}
-use Rattle.image_laws.specs.PartImage.{patterns_in_list}
+use Rattle.law_images.specs.Patterns.{hole, pattern_tree, patterns_tree, pattern_count}
+use Rattle.law_images.specs.PartImage.{patterns_in_list}
 use Rattle.lens_check.specs.PartLists.{field_pattern}
 use Rattle.lens_check.proofs.PartNames.{field_there, field_nowhere, field_past}
 use Rattle.lens_check.proofs.image_part_right.list_of_tag.Goals as goal

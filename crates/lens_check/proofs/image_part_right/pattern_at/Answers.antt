@@ -1,6 +1,6 @@
 use Rattle.std.proofs.Common.{◌≡◌, sym, ◌∙◌, arith, rules}
-use Rattle.image_laws.specs.declared.pattern.Pattern.{Hole, the_lemmas as pattern_lemmas}
-use Rattle.image_laws.specs.Patterns.{hole, pattern_tree, patterns_tree}
+use Rattle.law_images.specs.declared.pattern.Pattern.{Hole, the_lemmas as pattern_lemmas}
+use Rattle.law_images.specs.Patterns.{hole, pattern_tree, patterns_tree}
 use Rattle.lens_check.proofs.PartNames.{past_end}
 use Rattle.lens_check.proofs.image_part_right.pattern_at.Goals as goal
 

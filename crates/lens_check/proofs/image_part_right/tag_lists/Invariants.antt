@@ -1,7 +1,7 @@
 use Rattle.std.proofs.Common.{◌≡◌, map, drop}
 use Rattle.doc_values.specs.Types.{fields_tree, names_of}
 use Rattle.lens_forms.specs.Forms.{sorted, lists_of}
-use Rattle.image_laws.specs.Patterns.{pattern_tree, patterns_tree}
+use Rattle.law_images.specs.Patterns.{pattern_tree, patterns_tree}
 use Rattle.lens_check.specs.PartLists.{field_pattern, tag_lists}
 use Rattle.lens_check.proofs.PartItems.{left_tags}
 use Rattle.lens_check.proofs.image_part_right.tag_lists.Given as goal

@@ -6,8 +6,8 @@ use Rattle.lens_core.specs.Complements.{comp_tree, comps_tree, comp_count}
 use Rattle.lens_core.specs.Sides.{fields_on}
 use Rattle.lens_core.proofs.FormParts.{row_parts, row_smaller}
 use Rattle.lens_core.proofs.ComplementTrees.{comp_tree-rec, comp_tree-alt, comp_tree-hold}
-use Rattle.image_laws.specs.Image.{image, patterns_by_name}
-use Rattle.image_laws.specs.Patterns.{pattern_tree, rec_pattern, hold_pattern}
+use Rattle.law_images.specs.Image.{image, patterns_by_name}
+use Rattle.law_images.specs.Patterns.{pattern_tree, rec_pattern, hold_pattern}
 use Rattle.lens_check.specs.ImageParts.{names_in, patterns_in}
 use Rattle.lens_check.specs.ReadyComplements.{IsReady}
 use Rattle.lens_check.proofs.FarFields.{ready_both}

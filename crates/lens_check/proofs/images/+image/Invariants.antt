@@ -3,8 +3,8 @@ use Rattle.lens_forms.specs.Forms.{form_tree, rows_tree, arms_tree}
 use Rattle.lens_forms.specs.Measures.{form_parts, rows_parts, arms_parts}
 use Rattle.lens_core.specs.Complements.{comps_tree, comp_list, comp_count}
 use Rattle.lens_core.specs.Sides.{fields_on}
-use Rattle.image_laws.specs.Image.{image, patterns_by_name}
-use Rattle.image_laws.specs.Patterns.{pattern_tree}
+use Rattle.law_images.specs.Image.{image, patterns_by_name}
+use Rattle.law_images.specs.Patterns.{pattern_tree}
 use Rattle.lens_check.specs.ImageParts.{names_in, patterns_in}
 use Rattle.lens_check.proofs.HeldPatterns.{still_imaged, image_list, places_of}
 use Rattle.lens_check.proofs.ImageSteps.{Underway}

@@ -1,6 +1,6 @@
 use Rattle.std.proofs.Common.{◌≡◌, ◌<◌, ◌≤◌, true, length, sym, ◌∙◌, arith}
 use Rattle.doc_values.specs.Documents.{unit, doc_tree, docs_tree, doc_list}
-use Rattle.image_laws.specs.Patterns.{hole, pattern_tree, patterns_tree, pattern_count}
+use Rattle.law_images.specs.Patterns.{hole, pattern_tree, patterns_tree, pattern_count}
 use Rattle.lens_check.specs.MatchTest.{is_match}
 use Rattle.lens_check.proofs.FitLoops.{and_passes}
 use Rattle.lens_check.proofs.Levels.{pattern_at_levels}

@@ -1,6 +1,6 @@
 use Rattle.std.proofs.Common.{◌≡◌, ◌+◌, ◌*◌}
 use Rattle.doc_values.specs.Documents.{docs_tree}
-use Rattle.image_laws.specs.Patterns.{pattern_tree, patterns_tree}
+use Rattle.law_images.specs.Patterns.{pattern_tree, patterns_tree}
 use Rattle.lens_check.specs.MatchTest.{match_each}
 use Rattle.lens_check.proofs.Levels.{pattern_levels, patterns_levels}
 use Rattle.lens_check.proofs.MatchLoops.{match_from}

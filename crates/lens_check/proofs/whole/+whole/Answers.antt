@@ -2,7 +2,7 @@ use Rattle.std.proofs.Common.{◌≡◌, ◌<◌, ◌≤◌, length, map, ap, su
 use Rattle.std.specs.Prelude.{IfOk}
 use Rattle.std.proofs.lemmas.List.{take_all}
 use Rattle.doc_values.specs.Documents.{unit, doc_tree, docs_tree, doc_list}
-use Rattle.image_laws.specs.Patterns.{PatternTrees, patterns_tree, patterns_from, pattern_of}
+use Rattle.law_images.specs.Patterns.{PatternTrees, patterns_tree, patterns_from, pattern_of}
 use Rattle.lens_check.proofs.Levels.{doc_at_levels}
 use Rattle.lens_check.proofs.WholePatterns.{patterns_one_by_one}
 use Rattle.lens_check.proofs.whole.+whole.Goals as goal

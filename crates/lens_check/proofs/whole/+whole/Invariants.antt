@@ -1,6 +1,6 @@
 use Rattle.std.proofs.Common.{◌≡◌, ◌+◌, ◌*◌, map, take}
 use Rattle.doc_values.specs.Documents.{doc_tree, docs_tree, doc_list}
-use Rattle.image_laws.specs.Patterns.{pattern_tree, pattern_of}
+use Rattle.law_images.specs.Patterns.{pattern_tree, pattern_of}
 use Rattle.lens_check.proofs.Levels.{doc_levels, docs_levels}
 use Rattle.lens_check.proofs.whole.+whole.Given as goal
 

@@ -4,8 +4,8 @@ use Rattle.std.proofs.lemmas.Result.{IfOk-weaker}
 use Rattle.doc_values.specs.Documents.{doc_tree}
 use Rattle.doc_values.specs.Types.{TyTree}
 use Rattle.doc_values.specs.Typing.{has}
-use Rattle.image_laws.specs.declared.pattern.Pattern.{Pattern}
-use Rattle.image_laws.specs.Patterns.{is_of_type, pattern_tree, pattern_of}
+use Rattle.law_images.specs.declared.pattern.Pattern.{Pattern}
+use Rattle.law_images.specs.Patterns.{is_of_type, pattern_tree, pattern_of}
 use Rattle.lens_check.proofs.WholePatterns.{of_each_type}
 use Rattle.lens_check.proofs.whole.pattern_of.Goals as goal
 

@@ -9,10 +9,10 @@ use Rattle.lens_core.specs.Translation.{translate, carried_tree}
 use Rattle.lens_core.proofs.ComplementTrees.{comp_tree-then, comp_tree-rec, comp_tree-alt}
 use Rattle.lens_branch.specs.AlternativeSteps.{begin_alternatives, arm_translation}
 use Rattle.lens_branch.specs.RecordSteps.{begin_record, row_translation}
-use Rattle.form_steps.proofs.OnePrimitive.{one_carried}
-use Rattle.form_steps.proofs.Compositions.{through_left, through_right, left_far_fault, right_far_fault}
-use Rattle.form_steps.proofs.Rounds.{begun_inside, begun_done, record_done, record_inside, record_not_begun, record_not_inside, alternative_inside, alternative_not_begun, alternative_not_inside}
-use Rattle.form_steps.proofs.WordSteps.{next_done, all_done}
+use Rattle.lens_steps.proofs.OnePrimitive.{one_carried}
+use Rattle.lens_steps.proofs.Compositions.{through_left, through_right, left_far_fault, right_far_fault}
+use Rattle.lens_steps.proofs.Rounds.{begun_inside, begun_done, record_done, record_inside, record_not_begun, record_not_inside, alternative_inside, alternative_not_begun, alternative_not_inside}
+use Rattle.lens_steps.proofs.WordSteps.{next_done, all_done}
 use Rattle.lens_flat.specs.Tables.{form_at, node_form}
 use Rattle.lens_flat.specs.declared.node.Node.TheVariants.{Leaf, Then, Record, Alternatives, Held, Partition, Inverse}
 use Rattle.lens_flat.proofs.InsideNodes.{at_node, leaf_inside, then_inside, held_inside, inverse_inside, partition_is_ready, arms_ready, row_ready, row_carried, row_past, arm_ready, arm_carried, arm_past, of_form, of_inverse, of_value}

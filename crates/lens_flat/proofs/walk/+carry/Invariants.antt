@@ -3,7 +3,7 @@ use Rattle.edit_module.specs.Words.{word_of}
 use Rattle.edit_module.specs.Views.{primitive_tree, word_tree}
 use Rattle.lens_core.specs.Complements.{comp_tree}
 use Rattle.lens_core.specs.Translation.{translate}
-use Rattle.form_steps.proofs.WordSteps.{left_to_do}
+use Rattle.lens_steps.proofs.WordSteps.{left_to_do}
 use Rattle.lens_flat.specs.Tables.{form_at}
 use Rattle.lens_flat.proofs.walk.+carry.Given as goal
 

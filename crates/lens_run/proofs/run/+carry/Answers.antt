@@ -1,6 +1,6 @@
 use Rattle.std.proofs.Common.{◌≡◌, Some, ◌∙◌, sym, arith}
 use Rattle.std.proofs.lemmas.Result.{err_from_is_err_and}
-use Rattle.form_steps.proofs.OnePrimitive.{one_carried}
+use Rattle.lens_steps.proofs.OnePrimitive.{one_carried}
 use Rattle.edit_module.specs.Views.{primitive_tree, word_tree}
 use Rattle.lens_forms.specs.Forms.{form_tree, rows_tree, arms_tree}
 use Rattle.lens_core.specs.Complements.{comp_tree, comps_tree, then_comp, rec_comp, alt_comp}
@@ -9,9 +9,9 @@ use Rattle.lens_core.specs.Translation.{carried_tree}
 use Rattle.lens_core.proofs.ComplementTrees.{comp_tree-then, comp_tree-rec, comp_tree-alt}
 use Rattle.lens_branch.specs.AlternativeSteps.{begin_alternatives}
 use Rattle.lens_branch.specs.RecordSteps.{begin_record}
-use Rattle.form_steps.proofs.Compositions.{through_left, through_right, left_far_fault, right_far_fault}
-use Rattle.form_steps.proofs.Rounds.{begun_inside, begun_done, record_done, record_inside, record_not_begun, record_not_inside, alternative_inside, alternative_not_begun, alternative_not_inside}
-use Rattle.form_steps.proofs.WordSteps.{next_done, all_done}
+use Rattle.lens_steps.proofs.Compositions.{through_left, through_right, left_far_fault, right_far_fault}
+use Rattle.lens_steps.proofs.Rounds.{begun_inside, begun_done, record_done, record_inside, record_not_begun, record_not_inside, alternative_inside, alternative_not_begun, alternative_not_inside}
+use Rattle.lens_steps.proofs.WordSteps.{next_done, all_done}
 use Rattle.lens_run.proofs.run.+carry.Goals as goal
 
 pub carry_word-loop-primitive-preserved : goal.carry_word-loop-primitive-preserved

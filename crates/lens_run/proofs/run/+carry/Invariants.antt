@@ -5,7 +5,7 @@ use Rattle.lens_forms.specs.Forms.{form_tree, rows_tree, arms_tree}
 use Rattle.lens_forms.specs.Measures.{form_parts, rows_parts, arms_parts}
 use Rattle.lens_core.specs.Complements.{comp_tree}
 use Rattle.lens_core.specs.Translation.{translate}
-use Rattle.form_steps.proofs.WordSteps.{left_to_do}
+use Rattle.lens_steps.proofs.WordSteps.{left_to_do}
 use Rattle.lens_run.proofs.run.+carry.Given as goal
 
 abbrev pub decreases-carry_word : goal.decreases-carry_word

@@ -5,7 +5,7 @@ use Rattle.doc_values.specs.Types.{ty_tree}
 use Rattle.doc_values.specs.Typing.{has}
 use Rattle.edit_module.specs.Views.{word_tree}
 use Rattle.lens_forms.specs.Forms.{form_tree}
-use Rattle.pair_answers.proofs.ActingCounts.{acting_fits}
+use Rattle.run_answers.proofs.ActingCounts.{acting_fits}
 use Rattle.store_new.proofs.FirstSteps.{document_made}
 use Rattle.store_new.proofs.importing.document_entry.Goals as goal
 

@@ -1,5 +1,5 @@
 use Rattle.std.proofs.Common.{inl, inr, sym, subst}
-use Rattle.accepted_programs.specs.Program.{lens_of}
+use Rattle.program_accepted.specs.Program.{lens_of}
 use Rattle.lens_forms.specs.Forms.{form_tree}
 use Rattle.program_terms.specs.Views.{program_tree}
 use Rattle.script_input.specs.Lines.{program_part}

@@ -5,7 +5,7 @@ use Rattle.edit_session.specs.Step.{IsInStep}
 use Rattle.edit_session.specs.Views.{triple_tree}
 use Rattle.lens_core.specs.LensOf.{IsLensOf}
 use Rattle.lens_forms.specs.Forms.{form_tree}
-use Rattle.pair_answers.proofs.StepCounts.{carried_fits}
+use Rattle.run_answers.proofs.StepCounts.{carried_fits}
 use Rattle.store_new.proofs.FirstSteps.{entry_applies, entry_counts, entry_made}
 use Rattle.store_new.proofs.importing.text_of_step.Goals as goal
 

@@ -3,7 +3,7 @@ use Rattle.std.proofs.lemmas.Result.{IfOk-weaker}
 use Rattle.doc_values.specs.Types.{height}
 use Rattle.edit_module.specs.Views.{word_tree, entry_tree}
 use Rattle.edit_session.specs.Views.{triple_tree}
-use Rattle.pair_answers.proofs.StepCounts.{carried_fits}
+use Rattle.run_answers.proofs.StepCounts.{carried_fits}
 use Rattle.lens_core.specs.Translation.{translate}
 use Rattle.lens_flat.specs.declared.flat.ReadyForm.{ReadyForm}
 use Rattle.lens_forms.specs.Forms.{form_tree, left_type, right_type}

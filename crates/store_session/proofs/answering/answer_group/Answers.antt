@@ -6,8 +6,8 @@ use Rattle.edit_module.specs.Words.{WordTree}
 use Rattle.edit_module.specs.Views.{change_tree, entry_trees, word_trees}
 use Rattle.edit_session.specs.Step.{TripleTree, step_all}
 use Rattle.edit_session.specs.Views.{triple_tree}
-use Rattle.pair_answers.proofs.AnswersHaveLines.{words_counted}
-use Rattle.pair_answers.proofs.StepCounts.{each_counted}
+use Rattle.run_answers.proofs.AnswersHaveLines.{words_counted}
+use Rattle.run_answers.proofs.StepCounts.{each_counted}
 use Rattle.lens_core.specs.Translation.{translate}
 use Rattle.lens_flat.specs.declared.flat.ReadyForm.{ReadyForm}
 use Rattle.lens_forms.specs.Forms.{form_tree, left_type, right_type}

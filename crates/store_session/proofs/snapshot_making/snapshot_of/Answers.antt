@@ -1,5 +1,5 @@
 use Rattle.edit_session.specs.Views.{triple_tree}
-use Rattle.pair_answers.proofs.InStep.{in_step_fits}
+use Rattle.run_answers.proofs.InStep.{in_step_fits}
 use Rattle.lens_forms.specs.Forms.{form_tree}
 use Rattle.store_session.proofs.snapshot_making.snapshot_of.Goals as goal
 

@@ -9,7 +9,7 @@ use Rattle.lens_forms.specs.Measures.{form_height}
 use Rattle.lens_forms.specs.declared.limits.TheConstants.{GREATEST_HEIGHT}
 use Rattle.complement_file.specs.ComplementJson.{tree_of_complement}
 use Rattle.edit_session.specs.Views.{triple_tree}
-use Rattle.pair_answers.proofs.InStep.{in_step_fits}
+use Rattle.run_answers.proofs.InStep.{in_step_fits}
 use Rattle.store_records.proofs.PayloadTrees.{snapshot_low}
 use Rattle.store_undo.specs.TreeTexts.{IsTreeText}
 use Rattle.store_undo.proofs.tree_texts.tree_texts.Goals as goal

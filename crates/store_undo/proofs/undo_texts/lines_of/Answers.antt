@@ -2,7 +2,7 @@ use Rattle.std.proofs.Common.{List, ℕ, ◌++◌, codes, ap, ◌∙◌, append_
 use Rattle.serde_json.specs.Written.{compact_text}
 use Rattle.edit_json.specs.WordJson.{tree_of_word}
 use Rattle.edit_module.specs.Views.{word_tree}
-use Rattle.pair_answers.specs.Answers.{state_lines}
+use Rattle.run_answers.specs.Answers.{state_lines}
 use Rattle.store_undo.proofs.undo_texts.lines_of.Goals as goal
 
 pub returns : goal.returns

@@ -2,7 +2,7 @@ use Rattle.std.proofs.Common.{◌≡◌, List, ap, ◌∙◌, map, subst}
 use Rattle.std.specs.Prelude.{MatchResult}
 use Rattle.lens_forms.specs.Forms.{form_tree}
 use Rattle.lens_types.specs.declared.typed.Typed.{Typed}
-use Rattle.script_run.specs.declared.script_state.NotOpened.TheVariants.{NoMemory}
+use Rattle.run_scripts.specs.declared.script_state.NotOpened.TheVariants.{NoMemory}
 use Rattle.hub_run.specs.Lenses.{forms_of}
 use Rattle.hub_run.specs.RunStates.{hub_state_of}
 use Rattle.hub_run.specs.Runs.{first_state}

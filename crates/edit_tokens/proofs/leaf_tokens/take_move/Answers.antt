@@ -1,0 +1,16 @@
+use Rattle.std.proofs.Common.{◌-◌, refl, ap, ◌∙◌, arith, rules}
+use Rattle.edit_module.specs.declared.word.Primitive.{the_lemmas}
+use Rattle.json_tokens.specs.TreesAt.{read_at}
+use Rattle.json_tokens.proofs.ReadParts.{two_read}
+use Rattle.value_json.specs.Numbers.{count_of}
+use Rattle.edit_json.specs.WordJson.{leaf_of}
+use Rattle.edit_json.specs.declared.kind.Kind.TheVariants.{Move}
+use Rattle.edit_tokens.proofs.leaf_tokens.take_move.Goals as goal
+
+pub returns : goal.returns
+returns c depth some =
+    ap (read_at (leaf_of Move) depth) (c.if-not-opens_array.ensures refl)
+    ∙ two_read count_of count_of (leaf_of Move) depth c.opens_array.new.reader c.take_number.new.reader c.take_number-2.new.reader c.take_end_array.new.self c.in_ok-from.from c.in_ok-to.to _ (omega (arith, some))
+    (c.in_ok-from.ensures (depth - 1))
+    (c.in_ok-to.ensures (depth - 1))
+    c.if-not-take_end_array.ensures (λ d e p q. rw (p, q) (search (rules, the_lemmas)))

@@ -1,0 +1,18 @@
+use Rattle.std.proofs.Common.{◌-◌, refl, ap, ◌∙◌, arith, rules}
+use Rattle.edit_module.specs.declared.word.Primitive.{the_lemmas}
+use Rattle.serde_json.specs.Find.{as_str}
+use Rattle.json_tokens.specs.TreesAt.{read_at}
+use Rattle.json_tokens.proofs.ReadParts.{three_read}
+use Rattle.value_json.specs.Numbers.{count_of}
+use Rattle.edit_json.specs.WordJson.{leaf_of}
+use Rattle.edit_json.specs.declared.kind.Kind.TheVariants.{Splice}
+use Rattle.edit_tokens.proofs.leaf_tokens.take_splice.Goals as goal
+
+pub returns : goal.returns
+returns c depth some =
+    ap (read_at (leaf_of Splice) depth) (c.if-not-opens_array.ensures refl)
+    ∙ three_read count_of count_of as_str (leaf_of Splice) depth c.opens_array.new.reader c.take_number.new.reader c.take_number-2.new.reader c.take_str.new.reader c.take_end_array.new.self c.in_ok-from.from c.in_ok-count.count c.in_ok-text.text _ (omega (arith, some))
+    (c.in_ok-from.ensures (depth - 1))
+    (c.in_ok-count.ensures (depth - 1))
+    (c.in_ok-text.ensures (depth - 1))
+    c.if-not-take_end_array.ensures (λ d e i p q r. rw (p, q, r) (search (rules, the_lemmas)))

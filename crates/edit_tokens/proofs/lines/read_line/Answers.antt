@@ -1,0 +1,11 @@
+use Rattle.edit_journal.proofs.Reading.{line_counts, line_given, line_refused}
+use Rattle.edit_tokens.proofs.lines.read_line.Goals as goal
+
+pub returns-clause-fits : goal.returns-clause-fits
+returns-clause-fits c = line_counts c.read_either_way.result c.args.line.now c.read_either_way.ensures
+
+pub returns-clause-tree : goal.returns-clause-tree
+returns-clause-tree c = line_given c.read_either_way.result c.args.line.now c.read_either_way.ensures
+
+pub returns-clause-refused : goal.returns-clause-refused
+returns-clause-refused c = line_refused c.read_either_way.result c.args.line.now c.read_either_way.ensures

@@ -1,5 +1,0 @@
-use Rattle.form_steps.specs.LawsOfForms.{form_laws}
-use Rattle.form_steps.proofs.laws.typed_forms_are_lawful.Goals as goal
-
-pub returns : goal.returns
-returns c = form_laws

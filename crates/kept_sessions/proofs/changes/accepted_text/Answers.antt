@@ -1,8 +1,0 @@
-use Rattle.kept_sessions.specs.Steps.{session_form}
-use Rattle.kept_sessions.proofs.MadeChanges.{not_undone}
-use Rattle.kept_sessions.proofs.changes.accepted_text.Goals as goal
-
-pub returns-in-None : goal.returns-in-None
-returns-in-None c =
-    let a = c.args.accepted.now in
-    not_undone (session_form a.before) a (rw c.in-None.is at c.in_ok-words.ensures)

@@ -1,5 +1,0 @@
-use Rattle.kept_sessions.proofs.LogTexts.{log_reopened_text}
-use Rattle.kept_sessions.proofs.laws.logs_are_reopened.Goals as goal
-
-pub returns : goal.returns
-returns c = log_reopened_text

@@ -1,8 +1,0 @@
-use Rattle.kept_sessions.proofs.UndoneTexts.{left_back, right_back}
-use Rattle.kept_sessions.proofs.laws.words_take_back.Goals as goal
-
-pub returns-clause-left : goal.returns-clause-left
-returns-clause-left c = left_back
-
-pub returns-clause-right : goal.returns-clause-right
-returns-clause-right c = right_back

@@ -1,6 +1,0 @@
-use Rattle.kept_sessions.proofs.RefusedPrograms.{refused_resumed}
-use Rattle.kept_sessions.proofs.resuming.resume.Goals as goal
-
-pub returns-in-Err : goal.returns-in-Err
-returns-in-Err c =
-    refused_resumed c.args.program.now c.args.left.now c.args.comp.now c.args.right.now c.closed.result (c.closed.ensures c.args.program.now c.in-Err.ensures.begun)

@@ -1,8 +1,0 @@
-use Rattle.link_run.proofs.Events.{reads_back, writes_back}
-use Rattle.link_run.proofs.laws.reading_inverts_writing.Goals as goal
-
-pub returns-clause-reads_back : goal.returns-clause-reads_back
-returns-clause-reads_back c = reads_back
-
-pub returns-clause-writes_back : goal.returns-clause-writes_back
-returns-clause-writes_back c = writes_back

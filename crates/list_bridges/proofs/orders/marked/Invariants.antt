@@ -1,9 +1,0 @@
-use Rattle.std.proofs.Common.{◌≡◌, length}
-use Rattle.list_bridges.proofs.OrderSteps.{AreMarked}
-use Rattle.list_bridges.proofs.orders.marked.Given as goal
-
-abbrev pub invariant-loop-i : goal.invariant-loop-i
-invariant-loop-i l = record {
-  size : length l.marks.items ≡ l.size;
-  marks : AreMarked l.size l.marks.items l.i l.places;
-}

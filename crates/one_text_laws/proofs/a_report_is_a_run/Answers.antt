@@ -1,8 +1,0 @@
-use Rattle.one_text_laws.proofs.PairReports.{is_one, is_report}
-use Rattle.one_text_laws.proofs.a_report_is_a_run.Goals as goal
-
-pub returns-clause-run : goal.returns-clause-run
-returns-clause-run c = is_one
-
-pub returns-clause-written : goal.returns-clause-written
-returns-clause-written c = is_report

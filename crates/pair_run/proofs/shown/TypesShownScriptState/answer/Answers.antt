@@ -1,5 +1,0 @@
-use Rattle.std.proofs.Common.{[], refl, sym, append-nil}
-use Rattle.pair_run.proofs.shown.TypesShownScriptState.answer.Goals as goal
-
-pub returns-clause-answer : goal.returns-clause-answer
-returns-clause-answer c = record { line = []; answers = refl; adds = sym (append-nil _) }

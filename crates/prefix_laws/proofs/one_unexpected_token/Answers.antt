@@ -1,8 +1,0 @@
-use Rattle.prefix_laws.proofs.Unexpected.{begins, one_unexpected}
-use Rattle.prefix_laws.proofs.one_unexpected_token.Goals as goal
-
-pub returns-clause-prefix_of_viable : goal.returns-clause-prefix_of_viable
-returns-clause-prefix_of_viable c = begins
-
-pub returns-clause-same_offset : goal.returns-clause-same_offset
-returns-clause-same_offset c = one_unexpected

@@ -1,5 +1,0 @@
-use Rattle.hold_shapes.proofs.Nodes.{child-numbered}
-use Rattle.shape_laws.proofs.children_are_numbered.Goals as goal
-
-pub returns : goal.returns
-returns c = child-numbered c.args._tree.now c.args._place c.args._number

@@ -1,5 +1,0 @@
-use Rattle.text_bridges.proofs.Bridges.{far-bridge}
-use Rattle.text_bridges.proofs.laws.a_splice_of_the_far_text_is_spanned.Goals as goal
-
-pub returns : goal.returns
-returns c = far-bridge

@@ -1,6 +1,0 @@
-use Rattle.std.proofs.Common.{◌≡◌, ◌++◌, drop}
-use Rattle.text_bridges.specs.Runs.{pieces}
-use Rattle.text_bridges.proofs.pieces.pieces.Given as goal
-
-abbrev pub invariant-loop-run : goal.invariant-loop-run
-invariant-loop-run l = l.splices.items ++ pieces l.place l.count l.new (drop l.run-index l.range) ≡ pieces l.fn.at 0 l.fn.text l.fn.range
