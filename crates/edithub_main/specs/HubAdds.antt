@@ -7,10 +7,11 @@ use Rattle.lens_io.specs.declared.sink.Sink as OfSink
 use Rattle.lens_io.specs.declared.source.Source as OfSource
 use Rattle.store_run.specs.Devices.{Devices}
 use Rattle.store_run.specs.ApplyCall.{IsUnopened}
+use Rattle.store_run.specs.Refusals.{RefusesStore}
 use Rattle.store_run.specs.Rooms.{TakesTooMany, most_bytes}
 use Rattle.hub_add.specs.AddCall.{AddEnds, AddsView, EndsWhole, IsAddCause, IsSafeAdd, RefusesViewAtOnce}
 use Rattle.hub_add.specs.AddCall.{ViewHasNoRoom}
-use Rattle.edithub_main.specs.HubStores.{HubStore, RefusedHub, IsHubStateInStep, RefusesHub}
+use Rattle.edithub_main.specs.HubStores.{HubStore, RefusedHub, IsHubStateInStep}
 use Rattle.command_ends.specs.declared.status.Status.{Status}
 use Rattle.command_ends.specs.declared.status.Status.TheVariants.{Done, DiskFault}
 
@@ -48,5 +49,5 @@ module _ {S K D : Type 0} (source : OfSource.Ghosts S) (sink : OfSink.Ghosts K) 
     -- over bytes that are no store of a hub the line `store refused: REASON` was written, unless a device failed or
     -- memory ran out; nothing is written to the disk, and the source is not called
     pub refuses : (other : RefusedHub disk old.disk)
-        → RefusesHub sink disk (old.sink, old.disk) (new.sink, new.disk) status other.reason
+        → RefusesStore sink disk (old.sink, old.disk) (new.sink, new.disk) status other.reason
         × IsUnasked source old.source new.source

@@ -8,10 +8,8 @@ use Rattle.lens_io.specs.declared.disk.Disk as OfDisk
 use Rattle.lens_io.specs.declared.sink.Sink as OfSink
 use Rattle.lens_io.specs.declared.source.Source as OfSource
 use Rattle.edithub_main.specs.HubAdds.{HubAdds}
-use Rattle.edithub_main.specs.HubApplies.{HubApplies}
 use Rattle.edithub_main.specs.HubOrders.{hub_reads_source, hub_uses_disk, hub_usage_line}
-use Rattle.edithub_main.specs.HubPacks.{HubPacks}
-use Rattle.edithub_main.specs.HubShows.{HubShows, HubVerifies}
+use Rattle.edithub_main.specs.HubStores.{AppliesHub, ShowsHub, VerifiesHub, PacksHub}
 use Rattle.edithub_main.specs.HubUndoes.{HubUndoes}
 use Rattle.edithub_main.specs.MakesHub.{MakesHub}
 use Rattle.edithub_main.specs.declared.words.HubOrder.{HubOrder}
@@ -22,10 +20,10 @@ module _ {S K D : Type 0} (source : OfSource.Ghosts S) (sink : OfSink.Ghosts K) 
     (old new : Devices S K D) (status : Status) where
   abbrev pub EndsHubOrder : HubOrder → Type 0
   EndsHubOrder order.Init = MakesHub source sink disk old new status
-  EndsHubOrder order.Apply = HubApplies source sink disk old new status
-  EndsHubOrder order.Show = HubShows sink disk (old.sink, old.disk) (new.sink, new.disk) status
-  EndsHubOrder order.Verify = HubVerifies sink disk (old.sink, old.disk) (new.sink, new.disk) status
-  EndsHubOrder order.Pack = HubPacks sink disk (old.sink, old.disk) (new.sink, new.disk) status
+  EndsHubOrder order.Apply = AppliesHub source sink disk old new status
+  EndsHubOrder order.Show = ShowsHub sink disk (old.sink, old.disk) (new.sink, new.disk) status
+  EndsHubOrder order.Verify = VerifiesHub sink disk (old.sink, old.disk) (new.sink, new.disk) status
+  EndsHubOrder order.Pack = PacksHub sink disk (old.sink, old.disk) (new.sink, new.disk) status
   EndsHubOrder (order.Undo count) = HubUndoes count sink disk (old.sink, old.disk) (new.sink, new.disk) status
   EndsHubOrder order.Add = HubAdds source sink disk old new status
 

@@ -1,18 +1,23 @@
--- What the bytes of a disk are to the commands over the store of a hub, and what holds of the state of one.
-use Rattle.std.specs.Prelude.{◌≡◌, List, Some}
+-- What the commands over the store of a hub promise, which store_run defines for every kind of session, of the sessions
+-- of hub_session. And what the bytes of a disk are to these commands.
+use Rattle.std.specs.Prelude.{◌≡◌, ℕ, List, Some}
 use Rattle.std.specs.List.{All}
 use Rattle.edit_journal.specs.declared.line.Line.{Line}
 use Rattle.lens_io.specs.declared.disk.Disk as OfDisk
 use Rattle.lens_io.specs.declared.sink.Sink as OfSink
+use Rattle.lens_io.specs.declared.source.Source as OfSource
 use Rattle.view_hub.specs.Laws.{IsHub}
 use Rattle.hub_run.specs.FormLenses.{form_lens}
 use Rattle.hub_run.specs.Runs.{HubState}
 use Rattle.hub_session.specs.contracts.instance.HubSessionStoredSession.TheImpl.{ghosts as hubs}
-use Rattle.store_run.specs.Refusals.{IsUnwritten, EndsRefused}
+use Rattle.store_run.specs.Applies.{Applies}
+use Rattle.store_run.specs.Devices.{Devices}
+use Rattle.store_run.specs.Packs.{Packs}
+use Rattle.store_run.specs.Shows.{ShowsStore, Verifies}
+use Rattle.store_run.specs.StoreBytes.{HoldsState, IsRefusedOrInStep}
 use Rattle.store_run.specs.StoreRuns.{run_in_store}
 use Rattle.store_run.specs.Stores as stores
 use Rattle.store_run.specs.declared.session.StoredAnswer.{StoredAnswer}
-use Rattle.store_run.specs.declared.refusals.StoreRefusal.{StoreRefusal}
 use Rattle.command_ends.specs.declared.status.Status.{Status}
 
 -- The bytes of the disk are known, and are a log of payloads that stand for the state of a hub.
@@ -33,8 +38,25 @@ pub record HubStaysInStep (state : HubState) : Type 0 where
   pub runs : (lines : List Line) (steps : List (HubState × StoredAnswer)) → run_in_store hubs state 0 lines ≡ Some steps
       → All (λ step. IsHubStateInStep step.0) steps
 
+-- The bytes are a log, and its payloads represent a hub that is in step; and they are refused as a store, or so.
+abbrev pub HoldsHub : List ℕ → Type 0
+HoldsHub = HoldsState hubs IsHubStateInStep
+
+abbrev pub IsRefusedOrHub : List ℕ → Type 0
+IsRefusedOrHub = IsRefusedOrInStep hubs IsHubStateInStep
+
+-- ---- the commands: each calls a device, unless its words name none
+
+abbrev pub AppliesHub : {S K D : Type 0} → OfSource.Ghosts S → OfSink.Ghosts K → OfDisk.Ghosts D → Devices S K D
+    → Devices S K D → Status → Type 0
+AppliesHub source sink disk old new status = Applies source sink disk hubs HubStaysInStep ⊥ old new status
+
 module _ {K D : Type 0} (sink : OfSink.Ghosts K) (disk : OfDisk.Ghosts D) (old new : K × D) (status : Status) where
-  -- The line `store refused: REASON` was written in place of all else, and nothing to the disk. Only a disk whose room
-  -- is not known may fail before, and memory may run out.
-  abbrev pub RefusesHub : StoreRefusal → Type 0
-  RefusesHub reason = IsUnwritten disk old.1 new.1 × EndsRefused sink disk old new reason status
+  abbrev pub ShowsHub : Type 0
+  ShowsHub = ShowsStore sink disk hubs IsHubStateInStep old new status
+
+  abbrev pub VerifiesHub : Type 0
+  VerifiesHub = Verifies sink disk hubs IsHubStateInStep old new status
+
+  abbrev pub PacksHub : Type 0
+  PacksHub = Packs sink disk hubs IsHubStateInStep ⊥ old new status

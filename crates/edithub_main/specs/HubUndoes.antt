@@ -4,12 +4,12 @@ use Rattle.std.specs.Prelude.{◌≡◌, ◌⊎◌, ℕ}
 use Rattle.lens_io.specs.Calls.{SinkFailed, DiskFailed}
 use Rattle.lens_io.specs.declared.disk.Disk as OfDisk
 use Rattle.lens_io.specs.declared.sink.Sink as OfSink
+use Rattle.store_run.specs.Refusals.{RefusesStore}
 use Rattle.store_run.specs.Rooms.{most_bytes}
 use Rattle.store_run.specs.MoreCall.{IsUntouched, ExitsMore}
 use Rattle.store_run.specs.MoreCauses.{OneHasNoRoom, IsMoreCause}
 use Rattle.hub_undo.specs.HubUndoing.{hub_undo_snapshot_text, hub_undo_text}
 use Rattle.hub_undo.specs.UndoCall.{HubToUndo, IsSafeHubUndo, RefusedHubToUndo, HubUndoesCall}
-use Rattle.edithub_main.specs.HubStores.{RefusesHub}
 use Rattle.command_ends.specs.declared.status.Status.{Status}
 use Rattle.command_ends.specs.declared.status.Status.TheVariants.{Done, DiskFault, NoMemory}
 
@@ -43,4 +43,4 @@ module _ (count : ℕ) {K D : Type 0} (sink : OfSink.Ghosts K) (disk : OfDisk.Gh
     pub of_store : (store : HubToUndo disk count old.1) → TakesHubBack store
     -- over any other bytes the line `store refused: REASON` was written, unless a device failed or memory ran out;
     -- nothing is written to the disk. The reason is `nothing-to-undo` if they are a store.
-    pub refuses : (other : RefusedHubToUndo disk count old.1) → RefusesHub sink disk old new status other.reason
+    pub refuses : (other : RefusedHubToUndo disk count old.1) → RefusesStore sink disk old new status other.reason

@@ -1,10 +1,6 @@
 pub mod HubAdds
-pub mod HubApplies
-pub mod HubBytes
 pub mod HubEnds
 pub mod HubOrders
-pub mod HubPacks
-pub mod HubShows
 pub mod HubStores
 pub mod HubUndoes
 pub mod MakesHub

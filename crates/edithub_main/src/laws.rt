@@ -5,8 +5,7 @@ ghost use Rattle.hub_run.specs.Runs.{HubState};
 ghost use Rattle.hub_session.specs.HubStates.{hub_stands_for};
 ghost use Rattle.store_run.specs.Refusals.{refusal_in};
 ghost use Rattle.store_run.specs.declared.refusals.StoreRefusal.{StoreRefusal};
-ghost use Rattle.edithub_main.specs.HubBytes.{HoldsHub, IsRefusedOrHub};
-ghost use Rattle.edithub_main.specs.HubStores.{HubStaysInStep};
+ghost use Rattle.edithub_main.specs.HubStores.{HoldsHub, HubStaysInStep, IsRefusedOrHub};
 
 use hub_session::HubSession;
 use store_run::StoredSession;

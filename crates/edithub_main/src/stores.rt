@@ -3,9 +3,7 @@ ghost use Rattle.command_ends.specs.Statuses.{IsStatusAmong, apply_statuses, ini
 ghost use Rattle.std.specs.Prelude.{◌≡◌};
 ghost use Rattle.lens_io.specs.Calls.{SourceFailed, SinkFailed, DiskFailed};
 ghost use Rattle.edithub_main.specs.HubAdds.{HubAdds};
-ghost use Rattle.edithub_main.specs.HubApplies.{HubApplies};
-ghost use Rattle.edithub_main.specs.HubPacks.{HubPacks};
-ghost use Rattle.edithub_main.specs.HubShows.{HubShows, HubVerifies};
+ghost use Rattle.edithub_main.specs.HubStores.{AppliesHub, ShowsHub, VerifiesHub, PacksHub};
 ghost use Rattle.edithub_main.specs.HubUndoes.{HubUndoes};
 ghost use Rattle.edithub_main.specs.MakesHub.{MakesHub};
 ghost use Rattle.store_run.specs.Devices.{devices_of};
@@ -43,7 +41,7 @@ pub fn run_apply<S: Source, K: Sink, D: Disk>(
     sink: &mut K,
     disk: &mut D,
 ) -> Status
-    ensures applies { HubApplies S.Source K.Sink D.Disk
+    ensures applies { AppliesHub S.Source K.Sink D.Disk
         (devices_of source.old sink.old disk.old) (devices_of source.new sink.new disk.new) result }
     ensures statuses { IsStatusAmong apply_statuses result }
     ensures source_fault { result ≡ Status.SourceFault → SourceFailed S.Source source.old source.new }
@@ -55,7 +53,7 @@ pub fn run_apply<S: Source, K: Sink, D: Disk>(
 
 /// Shows the hub of the store.
 pub fn run_show<K: Sink, D: Disk>(alloc: Global, sink: &mut K, disk: &mut D) -> Status
-    ensures shows { HubShows K.Sink D.Disk (sink.old, disk.old) (sink.new, disk.new) result }
+    ensures shows { ShowsHub K.Sink D.Disk (sink.old, disk.old) (sink.new, disk.new) result }
     ensures statuses { IsStatusAmong quiet_statuses result }
     ensures sink_fault { result ≡ Status.SinkFault → SinkFailed K.Sink sink.old sink.new }
     ensures disk_fault { result ≡ Status.DiskFault → DiskFailed D.Disk disk.old disk.new }
@@ -65,7 +63,7 @@ pub fn run_show<K: Sink, D: Disk>(alloc: Global, sink: &mut K, disk: &mut D) -> 
 
 /// Counts the changes of the store.
 pub fn run_verify<K: Sink, D: Disk>(alloc: Global, sink: &mut K, disk: &mut D) -> Status
-    ensures verifies { HubVerifies K.Sink D.Disk (sink.old, disk.old) (sink.new, disk.new) result }
+    ensures verifies { VerifiesHub K.Sink D.Disk (sink.old, disk.old) (sink.new, disk.new) result }
     ensures statuses { IsStatusAmong quiet_statuses result }
     ensures sink_fault { result ≡ Status.SinkFault → SinkFailed K.Sink sink.old sink.new }
     ensures disk_fault { result ≡ Status.DiskFault → DiskFailed D.Disk disk.old disk.new }
@@ -75,7 +73,7 @@ pub fn run_verify<K: Sink, D: Disk>(alloc: Global, sink: &mut K, disk: &mut D) -
 
 /// Adds a snapshot to the store.
 pub fn run_pack<K: Sink, D: Disk>(alloc: Global, sink: &mut K, disk: &mut D) -> Status
-    ensures packs { HubPacks K.Sink D.Disk (sink.old, disk.old) (sink.new, disk.new) result }
+    ensures packs { PacksHub K.Sink D.Disk (sink.old, disk.old) (sink.new, disk.new) result }
     ensures statuses { IsStatusAmong quiet_statuses result }
     ensures sink_fault { result ≡ Status.SinkFault → SinkFailed K.Sink sink.old sink.new }
     ensures disk_fault { result ≡ Status.DiskFault → DiskFailed D.Disk disk.old disk.new }

@@ -2,13 +2,11 @@
 ghost use Rattle.std.specs.Prelude.{◌≡◌, ℕ, Some, None, false};
 ghost use Rattle.lens_io.specs.Calls.{SourceFailed, SinkFailed, DiskFailed};
 ghost use Rattle.edithub_main.specs.HubAdds.{HubAdds};
-ghost use Rattle.edithub_main.specs.HubApplies.{HubApplies};
 ghost use Rattle.edithub_main.specs.HubEnds.{EndsHubOrder, GivesHubUsage, HubLeavesAlone, HubMayEnd};
 ghost use Rattle.store_run.specs.Devices.{devices_of};
 ghost use Rattle.store_run.specs.FaultCauses.{FaultsAreCaused};
 ghost use Rattle.edithub_main.specs.HubOrders.{hub_order_named, hub_reads_source, hub_uses_disk};
-ghost use Rattle.edithub_main.specs.HubPacks.{HubPacks};
-ghost use Rattle.edithub_main.specs.HubShows.{HubShows, HubVerifies};
+ghost use Rattle.edithub_main.specs.HubStores.{AppliesHub, ShowsHub, VerifiesHub, PacksHub};
 ghost use Rattle.edithub_main.specs.HubUndoes.{HubUndoes};
 ghost use Rattle.edithub_main.specs.MakesHub.{MakesHub};
 ghost use Rattle.edithub_main.specs.declared.words.HubOrder.TheVariants.{Init, Apply, Show, Verify, Pack, Undo, Add};
@@ -22,8 +20,9 @@ use std::alloc::Global;
 
 /// Does what the program's words say, with its input, its output and its store.
 ///
-/// There is a clause for each command, and it names a record: what the command promises, field by field, in a file of
-/// specs/ with the record's name (`HubVerifies` stands beside `HubShows`). The fields have the names that they have for
+/// There is a clause for each command, and it names a record: what the command promises, field by field. Those of
+/// `apply`, `show`, `verify` and `pack` are store_run's, over any kind of session, and specs/HubStores.antt names them
+/// for hubs; each other one stands in a file of specs/ with its name. The fields have the names that they have for
 /// `editlens`:
 ///
 /// - `continues`, `reports`, `starts`: what was read, written and stored where the command came to its end.
@@ -53,14 +52,14 @@ pub fn edithub<S: Source, K: Sink, D: Disk>(
         → MakesHub S.Source K.Sink D.Disk (devices_of source.old sink.old disk.old)
         (devices_of source.new sink.new disk.new) result }
     ensures apply { hub_order_named words.now ≡ Some Apply
-        → HubApplies S.Source K.Sink D.Disk (devices_of source.old sink.old disk.old)
+        → AppliesHub S.Source K.Sink D.Disk (devices_of source.old sink.old disk.old)
         (devices_of source.new sink.new disk.new) result }
     ensures show { hub_order_named words.now ≡ Some Show
-        → HubShows K.Sink D.Disk (sink.old, disk.old) (sink.new, disk.new) result }
+        → ShowsHub K.Sink D.Disk (sink.old, disk.old) (sink.new, disk.new) result }
     ensures verify { hub_order_named words.now ≡ Some Verify
-        → HubVerifies K.Sink D.Disk (sink.old, disk.old) (sink.new, disk.new) result }
+        → VerifiesHub K.Sink D.Disk (sink.old, disk.old) (sink.new, disk.new) result }
     ensures pack { hub_order_named words.now ≡ Some Pack
-        → HubPacks K.Sink D.Disk (sink.old, disk.old) (sink.new, disk.new) result }
+        → PacksHub K.Sink D.Disk (sink.old, disk.old) (sink.new, disk.new) result }
     ensures undo { (count : ℕ) → hub_order_named words.now ≡ Some (Undo count)
         → HubUndoes count K.Sink D.Disk (sink.old, disk.old) (sink.new, disk.new) result }
     ensures add { hub_order_named words.now ≡ Some Add

@@ -14,25 +14,25 @@ use Rattle.store_run.proofs.Moments.{leaves_same}
 use Rattle.store_run.proofs.Openings.{unwritten_none}
 use Rattle.store_run.specs.Devices.{Devices}
 use Rattle.store_run.specs.InTime.{EndsAtSource}
-use Rattle.store_run.specs.Refusals.{IsUnwritten}
+use Rattle.store_run.specs.Refusals.{IsUnwritten, RefusesStore}
+use Rattle.store_run.specs.Shows.{ReadsStore}
 use Rattle.store_run.specs.declared.refusals.StoreRefusal.{StoreRefusal}
 use Rattle.store_new.specs.Command.{Command}
 use Rattle.store_new.specs.NewEnds.{Ends, Completes, RefusesAtOnce}
 use Rattle.store_new.specs.Scripts.{one_program}
 use Rattle.store_new.specs.Import.{import_command}
 use Rattle.store_new.specs.Init.{init_command}
+use Rattle.store_session.specs.Journals.{IsStateInStep}
 use Rattle.store_session.specs.StoredStates.{StoredState}
+use Rattle.store_session.specs.contracts.instance.StoreSessionStoredSession.TheImpl.{ghosts as sessions}
 use Rattle.store_session.proofs.StatesInStep.{stored_sound}
-use Rattle.editlens_main.specs.Applies.{Applies}
 use Rattle.editlens_main.specs.Commands.{reads_source, uses_disk}
 use Rattle.editlens_main.specs.Generates.{Generates}
 use Rattle.editlens_main.specs.ImportsStore.{ImportsStore}
 use Rattle.editlens_main.specs.MakesStore.{MakesStore, FindsLog}
 use Rattle.editlens_main.specs.OrderEnds.{EndsOrder}
-use Rattle.editlens_main.specs.Packs.{Packs}
 use Rattle.editlens_main.specs.Runs.{RunsScript}
-use Rattle.editlens_main.specs.Shows.{ReadsStore}
-use Rattle.editlens_main.specs.Stores.{RefusesStore}
+use Rattle.editlens_main.specs.Stores.{AppliesPair, PacksPair}
 use Rattle.editlens_main.specs.Undoes.{Undoes}
 use Rattle.command_ends.specs.declared.status.Status.{Status}
 use Rattle.command_ends.specs.declared.status.Status.TheVariants.{NoMemory}
@@ -128,7 +128,7 @@ module _ {S K D : Type 0} (source : OfSource.Ghosts S) (sink : OfSink.Ghosts K) 
     refuses = never_finds;
   }
 
-  pub never_apply : Applies source sink disk old old NoMemory
+  pub never_apply : AppliesPair source sink disk old old NoMemory
   never_apply = record {
     of_store = λ s. record {
       continues = λ f. absurd (not_memory f);
@@ -147,7 +147,7 @@ module _ {K D : Type 0} (sink : OfSink.Ghosts K) (disk : OfDisk.Ghosts D) (old :
   never_refuses : (reason : StoreRefusal) → RefusesStore sink disk old old NoMemory reason
   never_refuses reason = (unwritten_none disk old.1, inr ((inr refl, Appends-nil (sink.held old.0)), λ e. cc))
 
-  pub never_pack : Packs sink disk old old NoMemory
+  pub never_pack : PacksPair sink disk old old NoMemory
   never_pack = record {
     of_store = λ s. record {
       continues = λ f. absurd (not_memory f);
@@ -173,7 +173,7 @@ module _ {K D : Type 0} (sink : OfSink.Ghosts K) (disk : OfDisk.Ghosts D) (old :
     refuses = λ other. never_refuses other.reason;
   }
 
-  pub never_view : ((d : D) (c : List ℕ) → disk.images_since d (disk.moment d) c → disk.images d c) → (text : StoredState → List (List ℕ) → List ℕ) → ReadsStore sink disk old old NoMemory text
+  pub never_view : ((d : D) (c : List ℕ) → disk.images_since d (disk.moment d) c → disk.images d c) → (text : StoredState → List (List ℕ) → List ℕ) → ReadsStore sink disk sessions IsStateInStep old old NoMemory text
   never_view only text = record {
     reports = λ s. inr (inr (inr refl, Appends-nil (sink.held old.0)));
     in_step = λ s. (stored_sound s.payloads s.state s.version s.stands).1;

@@ -1,15 +1,11 @@
-pub mod Applies
 pub mod Commands
 pub mod Generated
 pub mod Generates
 pub mod ImportsStore
 pub mod MakesStore
 pub mod OrderEnds
-pub mod Packs
 pub mod Runs
-pub mod Shows
 pub mod Statuses
-pub mod StoreBytes
 pub mod Stores
 pub mod SureEnds
 pub mod Top

@@ -5,14 +5,14 @@ use Rattle.lens_io.specs.Calls.{SinkFailed, DiskFailed}
 use Rattle.lens_io.specs.declared.disk.Disk as OfDisk
 use Rattle.lens_io.specs.declared.sink.Sink as OfSink
 use Rattle.store_run.specs.MoreCall.{IsUntouched}
-use Rattle.store_run.specs.Refusals.{IsUnwritten, IsOpening, FailsUnopened}
+use Rattle.store_run.specs.Refusals.{IsUnwritten, IsOpening, FailsUnopened, RefusesStore}
 use Rattle.store_run.specs.Rooms.{most_bytes}
 use Rattle.store_run.specs.StoreEnds.{StoresBehind}
 use Rattle.store_undo.specs.UndoCall.{UndoesCall, IsSafeUndo, HoldsNow}
 use Rattle.store_undo.specs.UndoCauses.{UndoHasNoRoom, IsUndoCause}
 use Rattle.store_undo.specs.UndoRecords.{undo_text, version_due, undo_snapshot_text}
 use Rattle.store_undo.specs.UndoStores.{StoreToUndo, RefusedToUndo}
-use Rattle.editlens_main.specs.Stores.{RefusesStore}
+use Rattle.editlens_main.specs.Stores.{RunsOutAtWords}
 use Rattle.command_ends.specs.declared.status.Status.{Status}
 use Rattle.command_ends.specs.declared.status.Status.TheVariants.{Done, StoreRefused, DiskFault, NoMemory}
 
@@ -29,7 +29,7 @@ module _ (count : ℕ) {K D : Type 0} (sink : OfSink.Ghosts K) (disk : OfDisk.Gh
 
   -- the store was not opened: the disk failed, and nothing has changed; or memory ran out before any device was called
   abbrev pub UnopenedUndo : Type 0
-  UnopenedUndo = (status ≡ DiskFault) × IsUntouched sink disk old new ⊎ (status ≡ NoMemory) × (new ≡ old)
+  UnopenedUndo = (status ≡ DiskFault) × IsUntouched sink disk old new ⊎ RunsOutAtWords old new status
 
   -- over a store whose last records, so many as the count says, are of changes, which can be undone
   pub record TakesChangesBack (store : StoreToUndo disk count old.1) : Type 0 where

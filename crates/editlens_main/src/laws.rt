@@ -5,7 +5,7 @@ ghost use Rattle.store_session.specs.Journals.{IsStateInStep};
 ghost use Rattle.store_session.specs.StoredStates.{StoredState, stands_for};
 ghost use Rattle.store_run.specs.Refusals.{refusal_in};
 ghost use Rattle.store_run.specs.declared.refusals.StoreRefusal.{StoreRefusal};
-ghost use Rattle.editlens_main.specs.StoreBytes.{HoldsState, IsRefusedOrInStep};
+ghost use Rattle.editlens_main.specs.Stores.{HoldsPair, IsRefusedOrPair};
 
 use store_run::StoredSession;
 use store_session::StoreSession;
@@ -27,7 +27,7 @@ pub fn every_store_stays_in_step()
 ///   triple.
 /// - `one`: both are never so.
 pub fn every_disk_is_refused_or_in_step()
-    ensures either { (bytes : List ℕ) → IsRefusedOrInStep bytes }
+    ensures either { (bytes : List ℕ) → IsRefusedOrPair bytes }
     ensures one { (bytes : List ℕ) (refusal : StoreRefusal) → refusal_in ⟦<StoreSession as StoredSession>⟧ bytes
-        ≡ Some refusal → HoldsState bytes → ⊥ }
+        ≡ Some refusal → HoldsPair bytes → ⊥ }
 {}

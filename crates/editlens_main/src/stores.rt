@@ -3,9 +3,7 @@
 ghost use Rattle.command_ends.specs.Statuses.{IsStatusAmong, apply_statuses, quiet_statuses};
 ghost use Rattle.std.specs.Prelude.{◌≡◌};
 ghost use Rattle.lens_io.specs.Calls.{SourceFailed, SinkFailed, DiskFailed};
-ghost use Rattle.editlens_main.specs.Applies.{Applies};
-ghost use Rattle.editlens_main.specs.Packs.{Packs};
-ghost use Rattle.editlens_main.specs.Shows.{ShowsStore, Verifies};
+ghost use Rattle.editlens_main.specs.Stores.{AppliesPair, ShowsPair, VerifiesPair, PacksPair};
 ghost use Rattle.editlens_main.specs.Undoes.{Undoes};
 ghost use Rattle.store_run.specs.Devices.{devices_of};
 
@@ -23,7 +21,7 @@ pub fn run_apply<S: Source, K: Sink, D: Disk>(
     sink: &mut K,
     disk: &mut D,
 ) -> Status
-    ensures applies { Applies S.Source K.Sink D.Disk
+    ensures applies { AppliesPair S.Source K.Sink D.Disk
         (devices_of source.old sink.old disk.old) (devices_of source.new sink.new disk.new) result }
     ensures statuses { IsStatusAmong apply_statuses result }
     ensures source_fault { result ≡ Status.SourceFault → SourceFailed S.Source source.old source.new }
@@ -35,7 +33,7 @@ pub fn run_apply<S: Source, K: Sink, D: Disk>(
 
 /// Shows the state of the store.
 pub fn run_show<K: Sink, D: Disk>(alloc: Global, sink: &mut K, disk: &mut D) -> Status
-    ensures shows { ShowsStore K.Sink D.Disk (sink.old, disk.old) (sink.new, disk.new) result }
+    ensures shows { ShowsPair K.Sink D.Disk (sink.old, disk.old) (sink.new, disk.new) result }
     ensures statuses { IsStatusAmong quiet_statuses result }
     ensures sink_fault { result ≡ Status.SinkFault → SinkFailed K.Sink sink.old sink.new }
     ensures disk_fault { result ≡ Status.DiskFault → DiskFailed D.Disk disk.old disk.new }
@@ -45,7 +43,7 @@ pub fn run_show<K: Sink, D: Disk>(alloc: Global, sink: &mut K, disk: &mut D) -> 
 
 /// Counts the changes of the store.
 pub fn run_verify<K: Sink, D: Disk>(alloc: Global, sink: &mut K, disk: &mut D) -> Status
-    ensures verifies { Verifies K.Sink D.Disk (sink.old, disk.old) (sink.new, disk.new) result }
+    ensures verifies { VerifiesPair K.Sink D.Disk (sink.old, disk.old) (sink.new, disk.new) result }
     ensures statuses { IsStatusAmong quiet_statuses result }
     ensures sink_fault { result ≡ Status.SinkFault → SinkFailed K.Sink sink.old sink.new }
     ensures disk_fault { result ≡ Status.DiskFault → DiskFailed D.Disk disk.old disk.new }
@@ -55,7 +53,7 @@ pub fn run_verify<K: Sink, D: Disk>(alloc: Global, sink: &mut K, disk: &mut D) -
 
 /// Adds a snapshot to the store.
 pub fn run_pack<K: Sink, D: Disk>(alloc: Global, sink: &mut K, disk: &mut D) -> Status
-    ensures packs { Packs K.Sink D.Disk (sink.old, disk.old) (sink.new, disk.new) result }
+    ensures packs { PacksPair K.Sink D.Disk (sink.old, disk.old) (sink.new, disk.new) result }
     ensures statuses { IsStatusAmong quiet_statuses result }
     ensures sink_fault { result ≡ Status.SinkFault → SinkFailed K.Sink sink.old sink.new }
     ensures disk_fault { result ≡ Status.DiskFault → DiskFailed D.Disk disk.old disk.new }

@@ -5,16 +5,14 @@ ghost use Rattle.command_words.specs.declared.orders.Order.TheVariants.{Gen, Ini
 ghost use Rattle.command_words.specs.declared.orders.Order.TheVariants.{Undo, Hub, Link};
 ghost use Rattle.command_words.specs.declared.orders.Order.TheVariants as order;
 ghost use Rattle.lens_io.specs.Calls.{SourceFailed, SinkFailed, DiskFailed};
-ghost use Rattle.editlens_main.specs.Applies.{Applies};
 ghost use Rattle.editlens_main.specs.Commands.{order_named, reads_source, uses_disk};
 ghost use Rattle.editlens_main.specs.Generates.{Generates};
 ghost use Rattle.editlens_main.specs.ImportsStore.{ImportsStore};
 ghost use Rattle.editlens_main.specs.MakesStore.{MakesStore};
 ghost use Rattle.editlens_main.specs.OrderEnds.{EndsOrder};
-ghost use Rattle.editlens_main.specs.Packs.{Packs};
 ghost use Rattle.editlens_main.specs.Runs.{Runs, Checks, RunsHub, RunsLink};
-ghost use Rattle.editlens_main.specs.Shows.{ShowsStore, Verifies};
 ghost use Rattle.editlens_main.specs.Statuses.{MayEnd};
+ghost use Rattle.editlens_main.specs.Stores.{AppliesPair, ShowsPair, VerifiesPair, PacksPair};
 ghost use Rattle.editlens_main.specs.Top.{GivesUsage, LeavesAlone};
 ghost use Rattle.store_run.specs.Devices.{devices_of};
 ghost use Rattle.store_run.specs.FaultCauses.{FaultsAreCaused};
@@ -32,9 +30,10 @@ use std::alloc::Global;
 
 /// Does what the program's words say, with its input, its output and its store.
 ///
-/// There is a clause for each command, and it names a record: what the command promises, field by field, in a file of
-/// specs/ with the record's name (`ShowsStore` and `Verifies` are in one; `run`, `check`, `hub` and `link` have one
-/// record, `RunsScript`, over what a script means to each). The fields have the same names everywhere:
+/// There is a clause for each command, and it names a record: what the command promises, field by field. It stands in a
+/// file of specs/ with the record's name. `run`, `check`, `hub` and `link` have one record, `RunsScript`, over what a
+/// script means to each; those of `apply`, `show`, `verify` and `pack` are store_run's, over any kind of session, and
+/// specs/Stores.antt names them for this one. The fields have the same names everywhere:
 ///
 /// - `reports` or `continues`, and `starts` and `brings` of the commands that make a store: what was read, written and
 ///   stored where the command came to its end, with the status `Done` or `SomeRefused`. `declines`: what `import` does
@@ -92,14 +91,14 @@ pub fn editlens<S: Source, K: Sink, D: Disk>(
         → ImportsStore S.Source K.Sink D.Disk (devices_of source.old sink.old disk.old)
         (devices_of source.new sink.new disk.new) result }
     ensures apply { order_named words.now ≡ Some Apply
-        → Applies S.Source K.Sink D.Disk (devices_of source.old sink.old disk.old)
+        → AppliesPair S.Source K.Sink D.Disk (devices_of source.old sink.old disk.old)
         (devices_of source.new sink.new disk.new) result }
     ensures show { order_named words.now ≡ Some Show
-        → ShowsStore K.Sink D.Disk (sink.old, disk.old) (sink.new, disk.new) result }
+        → ShowsPair K.Sink D.Disk (sink.old, disk.old) (sink.new, disk.new) result }
     ensures verify { order_named words.now ≡ Some Verify
-        → Verifies K.Sink D.Disk (sink.old, disk.old) (sink.new, disk.new) result }
+        → VerifiesPair K.Sink D.Disk (sink.old, disk.old) (sink.new, disk.new) result }
     ensures pack { order_named words.now ≡ Some Pack
-        → Packs K.Sink D.Disk (sink.old, disk.old) (sink.new, disk.new) result }
+        → PacksPair K.Sink D.Disk (sink.old, disk.old) (sink.new, disk.new) result }
     ensures undo { (count : ℕ) → order_named words.now ≡ Some (Undo count)
         → Undoes count K.Sink D.Disk (sink.old, disk.old) (sink.new, disk.new) result }
 

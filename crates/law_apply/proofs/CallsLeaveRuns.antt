@@ -20,12 +20,12 @@ use Rattle.store_session.specs.contracts.instance.StoreSessionStoredSession.TheI
 use Rattle.store_session.specs.declared.session.StoreSession.{StoreSession}
 use Rattle.store_session.proofs.JournalRuns.{runs_alike}
 use Rattle.store_session.proofs.StatesInStep.{stored_sound}
+use Rattle.store_run.specs.Applies.{UnopenedApply}
 use Rattle.store_run.specs.Devices.{Devices}
 use Rattle.store_run.specs.ApplyCall.{ContinuesCall, IsSafeCall}
 use Rattle.store_run.specs.StoreRuns.{run_in_store, last_stored, kept_of, text_of}
 use Rattle.store_run.specs.declared.session.StoredAnswer.{StoredAnswer}
-use Rattle.editlens_main.specs.Applies.{Applies, UnopenedApply}
-use Rattle.editlens_main.specs.Stores.{PairStore}
+use Rattle.editlens_main.specs.Stores.{AppliesPair, PairStore, RunsOutAtWords}
 use Rattle.command_ends.specs.declared.status.Status.{Status}
 use Rattle.law_apply.specs.StoreRuns.{StoreParts, with_version, HoldsRun}
 use Rattle.law_apply.specs.TwoCalls.{parts_of, LeavesRun, FinishesRun, StaysUnopened, ContinuesRun}
@@ -87,7 +87,7 @@ module _ {S K D : Type 0} (source : OfSource.Ghosts S) (sink : OfSink.Ghosts K) 
         }
 
   -- a call that did not open the store leaves no image that was not possible before
-  was_possible : (status : Status) → UnopenedApply source sink disk old new status → (image : List ℕ) → disk.images new.disk image → disk.images old.disk image
+  was_possible : (status : Status) → UnopenedApply source sink disk (RunsOutAtWords old new status) old new status → (image : List ℕ) → disk.images new.disk image → disk.images old.disk image
   was_possible status (inl failed) image is = failed.1.only image is
   was_possible status (inr never) image is = subst (λ (x : Devices S K D). disk.images x.disk image) never.1 is
 
@@ -102,7 +102,7 @@ module _ {S K D : Type 0} (source : OfSource.Ghosts S) (sink : OfSink.Ghosts K) 
         left_run before image s.bytes s.given s.consumes s.appends s.lines s.rest s.parts
         (leaves_payloads sessions store.payloads store.state store.version s.lines s.given image s.steps s.is_run s.stand (s.now image is))
 
-    pub leaves_run : Applies source sink disk old new status → (image : List ℕ) → disk.images new.disk image
+    pub leaves_run : AppliesPair source sink disk old new status → (image : List ℕ) → disk.images new.disk image
         → StaysUnopened source sink disk old new status image ⊎ LeavesRun source sink disk old new before image
     leaves_run a image is = elim (a.of_store store).survives [
       | inl unopened ↦ inl (record { unopened = unopened; was = was_possible status unopened image is })
@@ -129,7 +129,7 @@ module _ {S K D : Type 0} (source : OfSource.Ghosts S) (sink : OfSink.Ghosts K) 
               → text_of steps ++ state_text (last_stored before.state steps) ≡ text_from before.state.form before.state.triple j.journal
           text_is steps j = ap (λ l. l ++ state_text (last_stored before.state steps)) j.text ∙ ap (λ u. answer_lines 1 j.journal ++ state_text u) j.at_last
 
-    pub finishes_run : Applies source sink disk old new status → IsFinished status → FinishesRun source sink disk old new before
+    pub finishes_run : AppliesPair source sink disk old new status → IsFinished status → FinishesRun source sink disk old new before
     finishes_run a h = finished ((a.of_store store).continues h)
 
 -- ---- two calls
@@ -137,7 +137,7 @@ module _ {S K D : Type 0} (source : OfSource.Ghosts S) (sink : OfSink.Ghosts K) 
 module _ {S K D : Type 0} (source : OfSource.Ghosts S) (sink : OfSink.Ghosts K) (disk : OfDisk.Ghosts D) where
   -- the second call is over the store that the first one left
   module _ (old new : Devices S K D) (status : Status) (before between : StoreParts) (items : List JournalItem) (first : HoldsRun before items between) (image : List ℕ)
-      (holds : HoldsPayloads between.payloads image) (told : disk.content old.disk ≡ Some image) (second : Applies source sink disk old new status) where
+      (holds : HoldsPayloads between.payloads image) (told : disk.content old.disk ≡ Some image) (second : AppliesPair source sink disk old new status) where
     abbrev again : PairStore disk old.disk
     again = record { bytes = image; told = told; payloads = between.payloads; holds = holds; state = between.state; version = between.version; stands = between.stands }
 
@@ -152,8 +152,8 @@ module _ {S K D : Type 0} (source : OfSource.Ghosts S) (sink : OfSink.Ghosts K) 
           (run, one_run before between run.after items (items_of (lines_of run.bytes)) first run.run);
     }
 
-  module _ (old1 new1 old2 new2 : Devices S K D) (status1 status2 : Status) (store : PairStore disk old1.disk) (image : List ℕ) (first : Applies source sink disk old1 new1 status1)
-      (second : Applies source sink disk old2 new2 status2) (told : disk.content old2.disk ≡ Some image) where
+  module _ (old1 new1 old2 new2 : Devices S K D) (status1 status2 : Status) (store : PairStore disk old1.disk) (image : List ℕ) (first : AppliesPair source sink disk old1 new1 status1)
+      (second : AppliesPair source sink disk old2 new2 status2) (told : disk.content old2.disk ≡ Some image) where
     abbrev start : StoreParts
     start = parts_of disk old1.disk store
 

@@ -12,10 +12,10 @@ use Rattle.lens_io.specs.declared.disk.Disk as OfDisk
 use Rattle.lens_io.specs.declared.sink.Sink as OfSink
 use Rattle.lens_io.specs.declared.source.Source as OfSource
 use Rattle.store_session.specs.Journals.{accepted_changes}
+use Rattle.store_run.specs.Applies.{UnopenedApply}
 use Rattle.store_run.specs.Devices.{Devices}
 use Rattle.store_run.specs.OkLines.{ok_lines}
-use Rattle.editlens_main.specs.Applies.{UnopenedApply}
-use Rattle.editlens_main.specs.Stores.{PairStore}
+use Rattle.editlens_main.specs.Stores.{PairStore, RunsOutAtWords}
 use Rattle.command_ends.specs.declared.status.Status.{Status}
 use Rattle.law_apply.specs.StoreRuns.{StoreParts, HoldsRun, AreOneRun}
 
@@ -65,7 +65,7 @@ module _ {S K D : Type 0} (source : OfSource.Ghosts S) (sink : OfSink.Ghosts K) 
 
   -- A call failed to open the store. The image that it left was possible before it, and nothing was taken or written.
   pub record StaysUnopened (old new : Devices S K D) (status : Status) (image : List ℕ) : Type 0 where
-    pub unopened : UnopenedApply source sink disk old new status
+    pub unopened : UnopenedApply source sink disk (RunsOutAtWords old new status) old new status
     pub was : disk.images old.disk image
 
   -- A first call made this run, over these items from the store `before` to the store `between`. A second call over

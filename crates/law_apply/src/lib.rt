@@ -12,8 +12,7 @@ ghost use Rattle.edit_journal.specs.Pieces.{lines_of};
 ghost use Rattle.edit_session.specs.Step.{TripleTree};
 ghost use Rattle.run_answers.specs.ItemRuns.{JournalItem, JournalAnswer, run_from};
 ghost use Rattle.lens_forms.specs.Forms.{FormTree};
-ghost use Rattle.editlens_main.specs.Applies.{Applies};
-ghost use Rattle.editlens_main.specs.Stores.{PairStore};
+ghost use Rattle.editlens_main.specs.Stores.{AppliesPair, PairStore};
 ghost use Rattle.command_ends.specs.declared.status.Status.{Status};
 ghost use Rattle.law_apply.specs.CutJournals.{ComeToTheSame};
 ghost use Rattle.law_apply.specs.OneRun.{IsRunOfAccepted};
@@ -62,11 +61,11 @@ pub fn two_runs_are_one_run()
 /// - `finishes`: the disk after a call that came to its end. The run is over all lines.
 pub fn a_call_leaves_a_run<S: Source, K: Sink, D: Disk>()
     ensures leaves { (old new : Devices S K D) (status : Status) (store : PairStore D.Disk old.disk) (image : List ℕ)
-        → Applies S.Source K.Sink D.Disk old new status → D.Disk.images new.disk image
+        → AppliesPair S.Source K.Sink D.Disk old new status → D.Disk.images new.disk image
         → StaysUnopened S.Source K.Sink D.Disk old new status image
         ⊎ LeavesRun S.Source K.Sink D.Disk old new (parts_of D.Disk old.disk store) image }
     ensures finishes { (old new : Devices S K D) (status : Status) (store : PairStore D.Disk old.disk)
-        → Applies S.Source K.Sink D.Disk old new status → IsFinished status
+        → AppliesPair S.Source K.Sink D.Disk old new status → IsFinished status
         → FinishesRun S.Source K.Sink D.Disk old new (parts_of D.Disk old.disk store) }
 {}
 
@@ -82,16 +81,16 @@ pub fn a_call_leaves_a_run<S: Source, K: Sink, D: Disk>()
 pub fn two_calls_are_one_run<S: Source, K: Sink, D: Disk>()
     ensures crash { (old1 new1 old2 new2 : Devices S K D) (status1 status2 : Status)
         (store : PairStore D.Disk old1.disk) (image : List ℕ)
-        → Applies S.Source K.Sink D.Disk old1 new1 status1 → D.Disk.images new1.disk image
-        → Applies S.Source K.Sink D.Disk old2 new2 status2 → D.Disk.content old2.disk ≡ Some image
+        → AppliesPair S.Source K.Sink D.Disk old1 new1 status1 → D.Disk.images new1.disk image
+        → AppliesPair S.Source K.Sink D.Disk old2 new2 status2 → D.Disk.content old2.disk ≡ Some image
         → StaysUnopened S.Source K.Sink D.Disk old1 new1 status1 image
         ⊎ ((first : LeavesRun S.Source K.Sink D.Disk old1 new1 (parts_of D.Disk old1.disk store) image)
         × ContinuesRun S.Source K.Sink D.Disk old2 new2 status2 first.run) }
     ensures finished { (old1 new1 old2 new2 : Devices S K D) (status1 status2 : Status)
         (store : PairStore D.Disk old1.disk) (image : List ℕ)
-        → Applies S.Source K.Sink D.Disk old1 new1 status1 → IsFinished status1
+        → AppliesPair S.Source K.Sink D.Disk old1 new1 status1 → IsFinished status1
         → D.Disk.content new1.disk ≡ Some image
-        → Applies S.Source K.Sink D.Disk old2 new2 status2 → D.Disk.content old2.disk ≡ Some image
+        → AppliesPair S.Source K.Sink D.Disk old2 new2 status2 → D.Disk.content old2.disk ≡ Some image
         → (first : FinishesRun S.Source K.Sink D.Disk old1 new1 (parts_of D.Disk old1.disk store))
         × ContinuesRun S.Source K.Sink D.Disk old2 new2 status2 first.run }
 {}

@@ -11,8 +11,7 @@ ghost use Rattle.std.specs.Prelude.{◌≡◌, ◌⊎◌, ℕ, ◌++◌, List, O
 ghost use Rattle.std.specs.declared.option.Option.{Option};
 ghost use Rattle.edit_journal.specs.Pieces.{lines_of};
 ghost use Rattle.edit_journal.specs.declared.line.Line.{Line};
-ghost use Rattle.edithub_main.specs.HubApplies.{HubApplies};
-ghost use Rattle.edithub_main.specs.HubStores.{HubStore};
+ghost use Rattle.edithub_main.specs.HubStores.{AppliesHub, HubStore};
 ghost use Rattle.hub_run.specs.Runs.{HubState};
 ghost use Rattle.hub_session.specs.HubStates.{hub_stands_for};
 ghost use Rattle.hub_session.specs.contracts.instance.HubSessionStoredSession.TheImpl.{ghosts as hubs};
@@ -46,11 +45,11 @@ pub fn every_hub_run_exists()
 /// - `finishes`: the disk after a call that came to its end. The run is over all lines.
 pub fn a_hub_call_leaves_a_run<S: Source, K: Sink, D: Disk>()
     ensures leaves { (old new : Devices S K D) (status : Status) (store : HubStore D.Disk old.disk) (image : List ℕ)
-        → HubApplies S.Source K.Sink D.Disk old new status → D.Disk.images new.disk image
+        → AppliesHub S.Source K.Sink D.Disk old new status → D.Disk.images new.disk image
         → StaysClosed S.Source K.Sink D.Disk hubs old new status image
         ⊎ LeavesFirstLines S.Source K.Sink D.Disk hubs old new (held_on D.Disk hubs old.disk store) image }
     ensures finishes { (old new : Devices S K D) (status : Status) (store : HubStore D.Disk old.disk)
-        → HubApplies S.Source K.Sink D.Disk old new status → IsFinished status
+        → AppliesHub S.Source K.Sink D.Disk old new status → IsFinished status
         → FinishesLines S.Source K.Sink D.Disk hubs old new (held_on D.Disk hubs old.disk store) }
 {}
 
@@ -67,16 +66,16 @@ pub fn a_hub_call_leaves_a_run<S: Source, K: Sink, D: Disk>()
 pub fn two_hub_calls_are_one_run<S: Source, K: Sink, D: Disk>()
     ensures crash { (old1 new1 old2 new2 : Devices S K D) (status1 status2 : Status)
         (store : HubStore D.Disk old1.disk) (image : List ℕ)
-        → HubApplies S.Source K.Sink D.Disk old1 new1 status1 → D.Disk.images new1.disk image
-        → HubApplies S.Source K.Sink D.Disk old2 new2 status2 → D.Disk.content old2.disk ≡ Some image
+        → AppliesHub S.Source K.Sink D.Disk old1 new1 status1 → D.Disk.images new1.disk image
+        → AppliesHub S.Source K.Sink D.Disk old2 new2 status2 → D.Disk.content old2.disk ≡ Some image
         → StaysClosed S.Source K.Sink D.Disk hubs old1 new1 status1 image
         ⊎ ((first : LeavesFirstLines S.Source K.Sink D.Disk hubs old1 new1 (held_on D.Disk hubs old1.disk store) image)
         × GoesOnFrom S.Source K.Sink D.Disk hubs old2 new2 status2 first.run) }
     ensures finished { (old1 new1 old2 new2 : Devices S K D) (status1 status2 : Status)
         (store : HubStore D.Disk old1.disk) (image : List ℕ)
-        → HubApplies S.Source K.Sink D.Disk old1 new1 status1 → IsFinished status1
+        → AppliesHub S.Source K.Sink D.Disk old1 new1 status1 → IsFinished status1
         → D.Disk.content new1.disk ≡ Some image
-        → HubApplies S.Source K.Sink D.Disk old2 new2 status2 → D.Disk.content old2.disk ≡ Some image
+        → AppliesHub S.Source K.Sink D.Disk old2 new2 status2 → D.Disk.content old2.disk ≡ Some image
         → (first : FinishesLines S.Source K.Sink D.Disk hubs old1 new1 (held_on D.Disk hubs old1.disk store))
         × GoesOnFrom S.Source K.Sink D.Disk hubs old2 new2 status2 first.run }
 {}

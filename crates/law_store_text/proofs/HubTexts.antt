@@ -4,8 +4,7 @@ use Rattle.command_ends.specs.Statuses.{IsFinished, status_at_end}
 use Rattle.command_ends.specs.declared.status.Status.{Status}
 use Rattle.edit_journal.specs.Pieces.{lines_of}
 use Rattle.edit_journal.specs.declared.line.Line.{Line}
-use Rattle.edithub_main.specs.HubApplies.{HubApplies}
-use Rattle.edithub_main.specs.HubStores.{HubStore}
+use Rattle.edithub_main.specs.HubStores.{AppliesHub, HubStore}
 use Rattle.gate_log.specs.LogOnDisk.{HoldsPayloads}
 use Rattle.hub_new.specs.HubInit.{StartsHub, programs_payload}
 use Rattle.hub_run.specs.HubScript.{hub_script}
@@ -92,5 +91,5 @@ module _ {S K D : Type 0} (source : OfSource.Ghosts S) (sink : OfSink.Ghosts K) 
     stands = c.stand;
   }
 
-  pub answers_as_hub : HubApplies source sink disk old2 new2 status → IsFinished status → AnswersAsHub source sink disk old2 new2 status (program_part made.bytes)
+  pub answers_as_hub : AppliesHub source sink disk old2 new2 status → IsFinished status → AnswersAsHub source sink disk old2 new2 status (program_part made.bytes)
   answers_as_hub a h = answers ((a.of_store store).continues h)

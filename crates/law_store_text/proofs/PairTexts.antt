@@ -5,8 +5,7 @@ use Rattle.command_ends.specs.Statuses.{IsFinished, status_at_end}
 use Rattle.command_ends.specs.declared.status.Status.{Status}
 use Rattle.edit_journal.specs.Pieces.{lines_of}
 use Rattle.edit_session.specs.Run as journals
-use Rattle.editlens_main.specs.Applies.{Applies}
-use Rattle.editlens_main.specs.Stores.{PairStore}
+use Rattle.editlens_main.specs.Stores.{AppliesPair, PairStore}
 use Rattle.gate_log.specs.LogOnDisk.{HoldsPayloads}
 use Rattle.lens_io.specs.declared.disk.Disk as OfDisk
 use Rattle.lens_io.specs.declared.sink.Sink as OfSink
@@ -81,5 +80,5 @@ module _ {S K D : Type 0} (source : OfSource.Ghosts S) (sink : OfSink.Ghosts K) 
           stands = c.stand ∙ ap (λ (u : StoredState). Ok (u, None)) j.at_last;
         }
 
-  pub answers_as_run : Applies source sink disk old2 new2 status → IsFinished status → AnswersAsRun source sink disk old2 new2 status (program_part made.bytes)
+  pub answers_as_run : AppliesPair source sink disk old2 new2 status → IsFinished status → AnswersAsRun source sink disk old2 new2 status (program_part made.bytes)
   answers_as_run a h = answers ((a.of_store store).continues h)

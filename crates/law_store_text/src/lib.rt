@@ -8,8 +8,8 @@ ghost use Rattle.command_ends.specs.Statuses.{IsFinished};
 ghost use Rattle.command_ends.specs.declared.status.Status.{Status};
 ghost use Rattle.std.specs.Prelude.{◌≡◌, ℕ, List, Some, false, option_map};
 ghost use Rattle.edit_journal.specs.declared.line.Line.{Line};
-ghost use Rattle.edithub_main.specs.HubApplies.{HubApplies};
-ghost use Rattle.editlens_main.specs.Applies.{Applies};
+ghost use Rattle.edithub_main.specs.HubStores.{AppliesHub};
+ghost use Rattle.editlens_main.specs.Stores.{AppliesPair};
 ghost use Rattle.hub_new.specs.HubInit.{StartsHub};
 ghost use Rattle.hub_run.specs.EditJson.{edit_of_line};
 ghost use Rattle.hub_run.specs.Runs.{HubState, hub_answer as script_answer};
@@ -36,12 +36,12 @@ pub fn init_and_apply_answer_as_run<S: Source, K: Sink, D: Disk>()
     ensures finished { (old1 new1 old2 new2 : Devices S K D) (status : Status) (image : List ℕ)
         (made : Starts S.Source K.Sink D.Disk old1 new1) → D.Disk.content new1.disk ≡ Some image
         → D.Disk.content old2.disk ≡ Some image
-        → Applies S.Source K.Sink D.Disk old2 new2 status → IsFinished status
+        → AppliesPair S.Source K.Sink D.Disk old2 new2 status → IsFinished status
         → AnswersAsRun S.Source K.Sink D.Disk old2 new2 status (program_part made.bytes) }
     ensures crash { (old1 new1 old2 new2 : Devices S K D) (status : Status) (image : List ℕ)
         (made : Starts S.Source K.Sink D.Disk old1 new1) → D.Disk.images new1.disk image
         → D.Disk.content old2.disk ≡ Some image
-        → Applies S.Source K.Sink D.Disk old2 new2 status → IsFinished status
+        → AppliesPair S.Source K.Sink D.Disk old2 new2 status → IsFinished status
         → AnswersAsRun S.Source K.Sink D.Disk old2 new2 status (program_part made.bytes) }
 {}
 
@@ -68,11 +68,11 @@ pub fn init_and_apply_answer_as_hub<S: Source, K: Sink, D: Disk>()
     ensures finished { (old1 new1 old2 new2 : Devices S K D) (status : Status) (image : List ℕ)
         (made : StartsHub S.Source K.Sink D.Disk old1 new1) → D.Disk.content new1.disk ≡ Some image
         → D.Disk.content old2.disk ≡ Some image
-        → HubApplies S.Source K.Sink D.Disk old2 new2 status → IsFinished status
+        → AppliesHub S.Source K.Sink D.Disk old2 new2 status → IsFinished status
         → AnswersAsHub S.Source K.Sink D.Disk old2 new2 status (program_part made.bytes) }
     ensures crash { (old1 new1 old2 new2 : Devices S K D) (status : Status) (image : List ℕ)
         (made : StartsHub S.Source K.Sink D.Disk old1 new1) → D.Disk.images new1.disk image
         → D.Disk.content old2.disk ≡ Some image
-        → HubApplies S.Source K.Sink D.Disk old2 new2 status → IsFinished status
+        → AppliesHub S.Source K.Sink D.Disk old2 new2 status → IsFinished status
         → AnswersAsHub S.Source K.Sink D.Disk old2 new2 status (program_part made.bytes) }
 {}

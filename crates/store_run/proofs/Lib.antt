@@ -1,4 +1,5 @@
 pub mod AnsweredLines
+pub mod AnyBytes
 pub mod ApplyCalls
 pub mod ApplyCausesHold
 pub mod ApplyEndsHold

@@ -1,4 +1,5 @@
 pub mod Answered
+pub mod Applies
 pub mod ApplyCall
 pub mod ApplyCauses
 pub mod ApplyEnds
@@ -14,10 +15,13 @@ pub mod MoreCauses
 pub mod OkLines
 pub mod Opening
 pub mod PackCall
+pub mod Packs
 pub mod Refusals
 pub mod Reopening
 pub mod Rooms
+pub mod Shows
 pub mod Stopping
+pub mod StoreBytes
 pub mod StoreEnds
 pub mod StoreRuns
 pub mod Stores

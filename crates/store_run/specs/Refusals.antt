@@ -1,5 +1,5 @@
 -- Why a store is refused, the line that says so, and how a command ends with it.
--- Read it from the end: `refusal_in`, `EndsRefused`, `WritesRefusal`, then `refusal_line`.
+-- Read it from the end: `refusal_in`, `RefusesStore`, `EndsRefused`, `WritesRefusal`, then `refusal_line`.
 use Rattle.std.specs.Prelude.{◌≡◌, ◌⊎◌, ℕ, List, [], ◌++◌, codes, decimal, Option, Some, None, IsNone, Result, Ok, Err}
 use Rattle.lens_io.specs.Calls.{Gave, GaveFront}
 use Rattle.lens_io.specs.DiskRuns.{LeavesOnly}
@@ -71,6 +71,11 @@ module _ {K D : Type 0} (sink : OfSink.Ghosts K) (disk : OfDisk.Ghosts D) (old n
   -- the end over bytes that are refused for this reason, unless the command failed before it was known
   abbrev pub EndsRefused : StoreRefusal → Status → Type 0
   EndsRefused refusal status = WritesRefusal sink old.0 new.0 refusal status ⊎ FailsUnopened status
+
+  -- The same, and nothing was written to the disk: the line `store refused: REASON` was written in place of all else.
+  -- Only a disk whose room is not known may fail before, and memory may run out.
+  abbrev pub RefusesStore : Status → StoreRefusal → Type 0
+  RefusesStore status refusal = IsUnwritten disk old.1 new.1 × EndsRefused refusal status
 
 -- ---- the bytes of a disk
 

@@ -1,3 +1,4 @@
+use Rattle.std.proofs.Common.{inl, inr}
 use Rattle.edithub_main.proofs.HubsInStep.{stays_in_step}
 use Rattle.edithub_main.proofs.stores.run_apply.Goals as goal
 
@@ -10,7 +11,7 @@ returns-clause-applies g c =
         in_step = stays_in_step s.payloads s.state s.version s.stands;
         in_time = e.in_time s;
         stops = e.exits s;
-        survives = e.safe s;
+        survives = elim (e.safe s) [ inl h ↦ inl (inl h) | inr h ↦ inr h ];
         caused = e.causes s;
         completes = e.complete s;
       };

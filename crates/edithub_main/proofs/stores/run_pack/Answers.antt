@@ -1,3 +1,4 @@
+use Rattle.std.proofs.Common.{inl, inr}
 use Rattle.edithub_main.proofs.HubsInStep.{hub_in_step}
 use Rattle.edithub_main.proofs.stores.run_pack.Goals as goal
 
@@ -9,7 +10,7 @@ returns-clause-packs g c =
         continues = e.packs s;
         in_step = hub_in_step s.payloads s.state s.version s.stands;
         stops = e.exits s;
-        survives = e.safe s;
+        survives = elim (e.safe s) [ inl h ↦ inl (inl h) | inr h ↦ inr h ];
         caused = e.causes s;
         completes = e.complete s;
       };

@@ -10,7 +10,8 @@ use Rattle.store_new.specs.Import.{import_command}
 use Rattle.store_new.proofs.InitEnds.{accepts, refuses}
 use Rattle.store_new.specs.Init.{init_command}
 use Rattle.editlens_main.specs.Commands.{order_named}
-use Rattle.editlens_main.specs.Shows.{text_shown, verified}
+use Rattle.store_run.specs.CountLines.{consistent_line}
+use Rattle.store_session.specs.StoredStates.{changes_counted, state_text}
 use Rattle.editlens_main.proofs.Statuses.{only_usage, never_disk}
 use Rattle.editlens_main.proofs.SureEnds.{never, by_room, apply_in_room, pack_in_room, undo_in_room, view_in_room, refused_in_room, made_in_room, script_in_room}
 use Rattle.editlens_main.proofs.sure.run_sure.Goals as goal
@@ -70,8 +71,8 @@ returns-clause-import_sure c = λ e empty few.
 
 pub returns-clause-views_sure : goal.returns-clause-views_sure
 returns-clause-views_sure c = λ h store. elim h [
-  | inl e ↦ view_in_room c.editlens.result _ (λ f. never (c.editlens.ensures.causes.source_fault f)) (λ f. by_room (c.editlens.ensures.causes.sink_fault f)) sure_sink c.args.sink.now c.editlens.new.sink (text_shown store.state store.payloads) (λ f. true≢false ((c.editlens.ensures.show e).caused f)) ((c.editlens.ensures.show e).reports store)
-  | inr e ↦ view_in_room c.editlens.result _ (λ f. never (c.editlens.ensures.causes.source_fault f)) (λ f. by_room (c.editlens.ensures.causes.sink_fault f)) sure_sink c.args.sink.now c.editlens.new.sink (verified store.state store.payloads) (λ f. true≢false ((c.editlens.ensures.verify e).caused f)) ((c.editlens.ensures.verify e).reports store)
+  | inl e ↦ view_in_room c.editlens.result _ (λ f. never (c.editlens.ensures.causes.source_fault f)) (λ f. by_room (c.editlens.ensures.causes.sink_fault f)) sure_sink c.args.sink.now c.editlens.new.sink (state_text store.state) (λ f. true≢false ((c.editlens.ensures.show e).caused f)) ((c.editlens.ensures.show e).reports store)
+  | inr e ↦ view_in_room c.editlens.result _ (λ f. never (c.editlens.ensures.causes.source_fault f)) (λ f. by_room (c.editlens.ensures.causes.sink_fault f)) sure_sink c.args.sink.now c.editlens.new.sink (consistent_line (changes_counted store.payloads)) (λ f. true≢false ((c.editlens.ensures.verify e).caused f)) ((c.editlens.ensures.verify e).reports store)
 ]
 
 pub returns-clause-refused_sure : goal.returns-clause-refused_sure

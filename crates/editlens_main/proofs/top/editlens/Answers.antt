@@ -1,7 +1,8 @@
 use Rattle.std.proofs.Common.{sym, ap, subst, ◌∙◌}
 use Rattle.command_words.specs.declared.orders.Order.TheVariants.{Run, Check, Gen, Init, Import, Apply, Show, Verify, Pack, Undo, Hub, Link}
 use Rattle.editlens_main.specs.Commands.{reads_source, uses_disk, order_named}
-use Rattle.editlens_main.specs.Shows.{text_shown, verified}
+use Rattle.store_run.specs.CountLines.{consistent_line}
+use Rattle.store_session.specs.StoredStates.{changes_counted, state_text}
 use Rattle.editlens_main.specs.Statuses.{MayEnd}
 use Rattle.hub_run.proofs.FormsInStep.{accepted_in_step}
 use Rattle.hub_run.specs.HubScript.{hub_script}
@@ -116,10 +117,10 @@ pub returns-in-Err-NoMemory-clause-apply : goal.returns-in-Err-NoMemory-clause-a
 returns-in-Err-NoMemory-clause-apply g c = λ e. never_apply g.S.Source g.K.Sink g.D.Disk (devices_of c.args.source.now c.args.sink.now c.args.disk.now)
 
 pub returns-in-Err-NoMemory-clause-show : goal.returns-in-Err-NoMemory-clause-show
-returns-in-Err-NoMemory-clause-show g c = λ e. never_view g.K.Sink g.D.Disk (c.args.sink.now, c.args.disk.now) g.met.D.Disk.only_now text_shown
+returns-in-Err-NoMemory-clause-show g c = λ e. never_view g.K.Sink g.D.Disk (c.args.sink.now, c.args.disk.now) g.met.D.Disk.only_now (λ state payloads. state_text state)
 
 pub returns-in-Err-NoMemory-clause-verify : goal.returns-in-Err-NoMemory-clause-verify
-returns-in-Err-NoMemory-clause-verify g c = λ e. never_view g.K.Sink g.D.Disk (c.args.sink.now, c.args.disk.now) g.met.D.Disk.only_now verified
+returns-in-Err-NoMemory-clause-verify g c = λ e. never_view g.K.Sink g.D.Disk (c.args.sink.now, c.args.disk.now) g.met.D.Disk.only_now (λ state payloads. consistent_line (changes_counted payloads))
 
 pub returns-in-Err-NoMemory-clause-pack : goal.returns-in-Err-NoMemory-clause-pack
 returns-in-Err-NoMemory-clause-pack g c = λ e. never_pack g.K.Sink g.D.Disk (c.args.sink.now, c.args.disk.now)
