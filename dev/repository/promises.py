@@ -11,23 +11,26 @@ from . import TOP
 from .pages import read_page
 
 PAGE = os.path.join("docs", "TRUST.md")
+OF_STORES = [
+    ("`apply`", "store_run/specs/Applies", ["StoreGoesOn", "Applies"]),
+    ("`show`, `verify`", "store_run/specs/Shows", ["ReadsStore"]),
+    ("`pack`", "store_run/specs/Packs", ["KeepsState", "Packs"]),
+]
+"""The commands that both programs have, with the file and the records that say what they promise: of every kind of session."""
+
 EDITLENS = [
-    ("`run`, `check`, `hub`, `link`", "Runs", ["RunsScript"]),
-    ("`gen`", "Generates", ["Generates"]),
-    ("`init`", "MakesStore", ["MakesStore"]),
-    ("`import`", "ImportsStore", ["ImportsStore"]),
-    ("`apply`", "Applies", ["StoreGoesOn", "Applies"]),
-    ("`show`, `verify`", "Shows", ["ReadsStore"]),
-    ("`pack`", "Packs", ["KeepsPair", "Packs"]),
-    ("`undo`", "Undoes", ["TakesChangesBack", "Undoes"]),
+    ("`run`, `check`, `hub`, `link`", "editlens_main/specs/Runs", ["RunsScript"]),
+    ("`gen`", "editlens_main/specs/Generates", ["Generates"]),
+    ("`init`", "editlens_main/specs/MakesStore", ["MakesStore"]),
+    ("`import`", "editlens_main/specs/ImportsStore", ["ImportsStore"]),
+    *OF_STORES,
+    ("`undo`", "editlens_main/specs/Undoes", ["TakesChangesBack", "Undoes"]),
 ]
 EDITHUB = [
-    ("`init`", "MakesHub", ["MakesHub"]),
-    ("`apply`", "HubApplies", ["HubGoesOn", "HubApplies"]),
-    ("`show`, `verify`", "HubShows", ["ReadsHub"]),
-    ("`pack`", "HubPacks", ["KeepsHub", "HubPacks"]),
-    ("`undo`", "HubUndoes", ["TakesHubBack", "HubUndoes"]),
-    ("`add`", "HubAdds", ["AddsOn", "HubAdds"]),
+    ("`init`", "edithub_main/specs/MakesHub", ["MakesHub"]),
+    *OF_STORES,
+    ("`undo`", "edithub_main/specs/HubUndoes", ["TakesHubBack", "HubUndoes"]),
+    ("`add`", "edithub_main/specs/HubAdds", ["AddsOn", "HubAdds"]),
 ]
 HEAD = "| Command | `editlens` | `edithub` | In words |"
 TABLE = re.compile(re.escape(HEAD) + r"\n\|[-|]+\|\n(?:\|.*\|\n)+")
@@ -54,11 +57,11 @@ def fields_of(path, record, top=TOP):
     return fields
 
 
-def promised(crate, commands, top=TOP):
+def promised(commands, top=TOP):
     """The promises of the commands of a top call: of each command a link and words, by the name of the field."""
     found = {}
     for command, file, records in commands:
-        path = os.path.join("crates", crate, "specs", file + ".antt")
+        path = os.path.join("crates", file + ".antt")
         fields = [field for record in records for field in fields_of(path, record, top)]
         found[command] = {name: (f"[`{name}`](../{path}#L{line})", words.rstrip(".")) for name, line, words in fields}
     return found
@@ -96,7 +99,7 @@ def rows_of(command, pair, hub, seen):
 
 def table_of(top=TOP):
     """The table of what the commands of both programs promise."""
-    pair, hub, seen = promised("editlens_main", EDITLENS, top), promised("edithub_main", EDITHUB, top), {}
+    pair, hub, seen = promised(EDITLENS, top), promised(EDITHUB, top), {}
     rows = [row for command in {**pair, **hub} for row in rows_of(command, pair.get(command, {}), hub.get(command, {}), seen)]
     return "\n".join([HEAD, "|---|---|---|---|", *rows]) + "\n"
 

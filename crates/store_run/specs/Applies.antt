@@ -35,7 +35,8 @@ module _ {S K D A : Type 0} (source : OfSource.Ghosts S) (sink : OfSink.Ghosts K
     pub continues : IsFinished status
         → ContinuesCall source sink disk session (old.source, old.sink) new store.payloads store.state store.version
         status
-    -- the state of the store is in step, and so is every state of the run
+    -- The state of the store is in step, and so is every state of the run: a pair is in its lens's consistency relation,
+    -- and each view of a hub is in that of its lens with the hub.
     pub in_step : StaysInStep store.state
     -- At every status: every line that had ended when the source was called last was answered, and its answer written,
     -- or the source was not called. After SourceFault and InputTooLong every line that has ended is answered.

@@ -24,7 +24,7 @@ module _ {K D A : Type 0} (sink : OfSink.Ghosts K) (disk : OfDisk.Ghosts D) (ses
   pub record KeepsState (store : Store disk session old.1) : Type 0 where
     -- at its end a snapshot is stored, and the store represents the same state with the same number of changes
     pub continues : IsFinished status → PacksCall sink disk session old.0 new store.payloads store.state store.version
-    -- the state of the store is in step
+    -- the state of the store is in step: a pair in its lens's consistency relation, or each view of a hub with the hub
     pub in_step : IsInStep store.state
     -- what was written and stored at every status
     pub stops : EndsPack sink disk session old new store.payloads store.state store.version status

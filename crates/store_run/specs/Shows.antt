@@ -21,7 +21,7 @@ module _ {K D A : Type 0} (sink : OfSink.Ghosts K) (disk : OfDisk.Ghosts D) (ses
     -- over a store `show` has written its state lines, and `verify` the number of its changes; or the sink failed at
     -- them, or the disk failed or memory ran out before
     pub reports : (store : Store disk session old.1) → call.Views sink old.0 new.0 (text store.state store.payloads) status
-    -- the state of the store is in step
+    -- the state of the store is in step: a pair in its lens's consistency relation, or each view of a hub with the hub
     pub in_step : (store : Store disk session old.1) → IsInStep store.state
     -- over a store it comes to its end, or memory runs out, if no device fails
     pub completes : Store disk session old.1 → (SinkFailed sink old.0 new.0 → ⊥) → (DiskFailed disk old.1 new.1 → ⊥)
