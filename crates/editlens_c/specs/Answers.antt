@@ -2,9 +2,9 @@
 -- `part_of`, `IsNotOpen`, `IsAnswer`.
 use Rattle.std.specs.Prelude.{◌≡◌, ◌<◌, ◌==◌, ℕ, List, ◌++◌, length, drop, Bool, true, false, Option, None, Some}
 use Rattle.std.specs.Prelude.{if◌then◌else◌}
-use Rattle.embed_session.specs.Kept.{text_of}
-use Rattle.embed_session.specs.declared.kept.Kept.{Kept}
-use Rattle.embed_session.specs.declared.kept.Kept.TheVariants as kept
+use Rattle.embed_session.specs.Embedded.{text_of}
+use Rattle.embed_session.specs.declared.embedded.EmbeddedSession.{EmbeddedSession}
+use Rattle.embed_session.specs.declared.embedded.EmbeddedSession.TheVariants as embedded
 use Rattle.embed_session.specs.declared.outcome.Outcome.{Outcome}
 use Rattle.embed_session.specs.declared.outcome.Outcome.TheVariants as outcome
 use Rattle.embed_session.specs.declared.outcome.Part.{Part}
@@ -15,14 +15,14 @@ use Rattle.editlens_c.specs.declared.codes.TheConstants as code
 use Rattle.editlens_c.specs.declared.reasons.Reason.{Reason}
 
 -- why there is no session, or that there is one
-abbrev pub closed_status : Kept → ℕ
-closed_status (kept.Open r) = code.DONE
-closed_status (kept.Refused refused line) = code.PROGRAM_REFUSED
-closed_status (kept.StateRefused fault) = code.STATE_REFUSED
-closed_status (kept.RecordsRefused fault) = code.RECORDS_REFUSED
-closed_status kept.NoMemory = code.NO_SESSION
+abbrev pub closed_status : EmbeddedSession → ℕ
+closed_status (embedded.Open r) = code.DONE
+closed_status (embedded.Refused refused line) = code.PROGRAM_REFUSED
+closed_status (embedded.StateRefused fault) = code.STATE_REFUSED
+closed_status (embedded.RecordsRefused fault) = code.RECORDS_REFUSED
+closed_status embedded.NoMemory = code.NO_SESSION
 
-abbrev pub status_of : Outcome → Kept → ℕ
+abbrev pub status_of : Outcome → EmbeddedSession → ℕ
 status_of outcome.Done k = code.DONE
 status_of outcome.Blank k = code.BLANK
 status_of (outcome.NoApply part at cause) k = code.REFUSED
@@ -34,15 +34,15 @@ status_of outcome.NoMemory k = code.NO_MEMORY
 status_of outcome.NoSession k = closed_status k
 
 -- how many items were given
-abbrev pub number_of : Kept → ℕ
-number_of (kept.Open r) = r.number
-number_of (kept.Refused refused line) = 0
-number_of (kept.StateRefused fault) = 0
-number_of (kept.RecordsRefused fault) = 0
-number_of kept.NoMemory = 0
+abbrev pub number_of : EmbeddedSession → ℕ
+number_of (embedded.Open r) = r.number
+number_of (embedded.Refused refused line) = 0
+number_of (embedded.StateRefused fault) = 0
+number_of (embedded.RecordsRefused fault) = 0
+number_of embedded.NoMemory = 0
 
--- the answer has this status and this reason, the number of items of what is kept, and the length of its text
-pub record IsAnswer (status : ℕ) (reason : Reason) (k : Kept) (answer : Answer) : Type 0 where
+-- the answer has this status and this reason, the number of items of what is held, and the length of its text
+pub record IsAnswer (status : ℕ) (reason : Reason) (k : EmbeddedSession) (answer : Answer) : Type 0 where
   pub status_is : answer.status ≡ status
   pub cause_is : answer.cause ≡ reason.cause
   pub part_is : answer.part ≡ reason.part

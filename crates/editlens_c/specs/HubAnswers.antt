@@ -3,9 +3,9 @@
 use Rattle.std.specs.Prelude.{◌≡◌, ◌==◌, ℕ, length, Option, None, Some, if◌then◌else◌}
 use Rattle.hub_run.specs.declared.views.HubRefused.{HubRefused}
 use Rattle.hub_run.specs.declared.views.HubRefused.TheVariants.{TooManyViews, InView, ViewsDiffer, NoMemory}
-use Rattle.embed_hub.specs.Kept.{text_of}
-use Rattle.embed_hub.specs.declared.kept.KeptHub.{KeptHub}
-use Rattle.embed_hub.specs.declared.kept.KeptHub.TheVariants as kept
+use Rattle.embed_hub.specs.Embedded.{text_of}
+use Rattle.embed_hub.specs.declared.embedded.EmbeddedHub.{EmbeddedHub}
+use Rattle.embed_hub.specs.declared.embedded.EmbeddedHub.TheVariants as embedded
 use Rattle.embed_hub.specs.declared.outcome.HubOutcome.{HubOutcome}
 use Rattle.embed_hub.specs.declared.outcome.HubOutcome.TheVariants as outcome
 use Rattle.embed_hub.specs.declared.outcome.HubStateFault.{HubStateFault}
@@ -21,13 +21,13 @@ use Rattle.editlens_c.specs.declared.reasons.Reason.{Reason}
 -- ---- statuses
 
 -- why there is no hub, or that there is one
-abbrev pub hub_closed_status : KeptHub → ℕ
-hub_closed_status (kept.Open r) = code.DONE
-hub_closed_status (kept.Refused refused line) = code.PROGRAM_REFUSED
-hub_closed_status (kept.StateRefused why) = code.STATE_REFUSED
-hub_closed_status kept.NoMemory = code.NO_SESSION
+abbrev pub hub_closed_status : EmbeddedHub → ℕ
+hub_closed_status (embedded.Open r) = code.DONE
+hub_closed_status (embedded.Refused refused line) = code.PROGRAM_REFUSED
+hub_closed_status (embedded.StateRefused why) = code.STATE_REFUSED
+hub_closed_status embedded.NoMemory = code.NO_SESSION
 
-abbrev pub hub_status_of : HubOutcome → KeptHub → ℕ
+abbrev pub hub_status_of : HubOutcome → EmbeddedHub → ℕ
 hub_status_of outcome.Done k = code.DONE
 hub_status_of outcome.Blank k = code.BLANK
 hub_status_of outcome.NoView k = code.REFUSED
@@ -62,14 +62,14 @@ hub_state_reason (fault.NotConsistent number) = of_view code.NOT_CONSISTENT numb
 hub_state_reason fault.NoMemory = no_place code.NO_CAUSE
 
 -- why there is no hub
-abbrev pub hub_closed_reason : KeptHub → Reason
-hub_closed_reason (kept.Open r) = no_place code.NO_CAUSE
-hub_closed_reason (kept.Refused refused line) = hub_refusal_reason refused
-hub_closed_reason (kept.StateRefused why) = hub_state_reason why
-hub_closed_reason kept.NoMemory = no_place code.NO_CAUSE
+abbrev pub hub_closed_reason : EmbeddedHub → Reason
+hub_closed_reason (embedded.Open r) = no_place code.NO_CAUSE
+hub_closed_reason (embedded.Refused refused line) = hub_refusal_reason refused
+hub_closed_reason (embedded.StateRefused why) = hub_state_reason why
+hub_closed_reason embedded.NoMemory = no_place code.NO_CAUSE
 
 -- why a call ended so
-abbrev pub hub_reason_of : HubOutcome → KeptHub → Reason
+abbrev pub hub_reason_of : HubOutcome → EmbeddedHub → Reason
 hub_reason_of outcome.NoView k = no_place hub_code.NO_VIEW
 hub_reason_of (outcome.NoApply at cause) k = record { cause = item_cause cause; part = 0; at = at }
 hub_reason_of (outcome.NotAnEdit fault) k = no_place (line_cause fault)
@@ -83,14 +83,14 @@ hub_reason_of outcome.NoMemory k = no_place code.NO_CAUSE
 -- ---- an answer
 
 -- how many items were given
-abbrev pub hub_number_of : KeptHub → ℕ
-hub_number_of (kept.Open r) = r.number
-hub_number_of (kept.Refused refused line) = 0
-hub_number_of (kept.StateRefused why) = 0
-hub_number_of kept.NoMemory = 0
+abbrev pub hub_number_of : EmbeddedHub → ℕ
+hub_number_of (embedded.Open r) = r.number
+hub_number_of (embedded.Refused refused line) = 0
+hub_number_of (embedded.StateRefused why) = 0
+hub_number_of embedded.NoMemory = 0
 
--- the answer has this status and this reason, the number of items of what is kept, and the length of its text
-pub record IsHubAnswer (status : ℕ) (reason : Reason) (k : KeptHub) (answer : Answer) : Type 0 where
+-- the answer has this status and this reason, the number of items of what is held, and the length of its text
+pub record IsHubAnswer (status : ℕ) (reason : Reason) (k : EmbeddedHub) (answer : Answer) : Type 0 where
   pub status_is : answer.status ≡ status
   pub cause_is : answer.cause ≡ reason.cause
   pub part_is : answer.part ≡ reason.part

@@ -5,8 +5,8 @@ use base.Fraction.{full_share}
 use denote.RawPtr.{Ptr, block_ptr, null_ptr, lies_at}
 use Rattle.core.specs.Mem.{type_size}
 use Rattle.core.specs.Ptr.{if_non_null}
-use Rattle.embed_hub.specs.Kept.{IsOpened, IsResumed, IsStepped, IsShown, text_of}
-use Rattle.embed_hub.specs.declared.kept.KeptHub.{KeptHub}
+use Rattle.embed_hub.specs.Embedded.{IsOpened, IsResumed, IsStepped, IsShown, text_of}
+use Rattle.embed_hub.specs.declared.embedded.EmbeddedHub.{EmbeddedHub}
 use Rattle.embed_hub.specs.declared.outcome.HubOutcome.{HubOutcome}
 use Rattle.embed_hub.specs.declared.outcome.HubPart.{HubPart}
 use Rattle.editlens_c.specs.Answers.{IsNotOpen, IsUntouched, IsWritten}
@@ -39,22 +39,22 @@ some_hub_slot_at (block_ptr b o) Fact AtNull =
 some_hub_slot_at null_ptr Fact AtNull = fex AtNull (λ _. ftrue)
 
 -- something is open for which the fact holds
-pub record HubOpen (Fact : KeptHub → Type 0) (slot : HubSlot) : Type 0 where
-  pub kept : KeptHub
-  pub is_open : hub_held_in slot ≡ Some kept
-  pub fact : Fact kept
+pub record HubOpen (Fact : EmbeddedHub → Type 0) (slot : HubSlot) : Type 0 where
+  pub embedded : EmbeddedHub
+  pub is_open : hub_held_in slot ≡ Some embedded
+  pub fact : Fact embedded
 
 -- what was opened, and the status that says whether it is a hub
-pub record HubOpened (Fact : KeptHub → Type 0) (status : ℕ) (slot : HubSlot) : Type 0 where
-  pub kept : KeptHub
-  pub is_open : hub_held_in slot ≡ Some kept
-  pub fact : Fact kept
-  pub status_is : status ≡ hub_closed_status kept
+pub record HubOpened (Fact : EmbeddedHub → Type 0) (status : ℕ) (slot : HubSlot) : Type 0 where
+  pub embedded : EmbeddedHub
+  pub is_open : hub_held_in slot ≡ Some embedded
+  pub fact : Fact embedded
+  pub status_is : status ≡ hub_closed_status embedded
 
 -- opened, where nothing was open; where something was, it stays as it is
-abbrev pub hub_opens : Option KeptHub → (KeptHub → Type 0) → HubSlot → ℕ → HubSlot → Type 0
+abbrev pub hub_opens : Option EmbeddedHub → (EmbeddedHub → Type 0) → HubSlot → ℕ → HubSlot → Type 0
 hub_opens None Fact before status after = HubOpened Fact status after
-hub_opens (Some kept) Fact before status after = (status ≡ code.NOT_OPEN) × (after ≡ before)
+hub_opens (Some embedded) Fact before status after = (status ≡ code.NOT_OPEN) × (after ≡ before)
 
 -- a program part was opened
 abbrev pub HubOpens : HubSlot → List ℕ → ℕ → HubSlot → Type 0
@@ -72,9 +72,9 @@ hub_resumed_at at before part texts status =
     some_hub_slot_at at (HubResumes before part texts status) (status ≡ code.NOT_OPEN)
 
 -- nothing changes, and the answer says what is open
-abbrev pub hub_told_by : Option KeptHub → HubSlot → Answer → HubSlot → Type 0
-hub_told_by (Some kept) before answer after =
-    (after ≡ before) × IsHubAnswer (hub_closed_status kept) (hub_closed_reason kept) kept answer
+abbrev pub hub_told_by : Option EmbeddedHub → HubSlot → Answer → HubSlot → Type 0
+hub_told_by (Some embedded) before answer after =
+    (after ≡ before) × IsHubAnswer (hub_closed_status embedded) (hub_closed_reason embedded) embedded answer
 hub_told_by None before answer after = (after ≡ before) × IsNotOpen answer
 
 abbrev pub HubTells : HubSlot → Answer → HubSlot → Type 0
@@ -84,14 +84,14 @@ abbrev pub hub_told_at : Ptr → HubSlot → Answer → Fml
 hub_told_at at before answer = some_hub_slot_at at (HubTells before answer) (IsNotOpen answer)
 
 -- a step by a line that ends so
-pub record HubStepsTo (before : KeptHub) (line : List ℕ) (answer : Answer) (after : KeptHub) : Type 0 where
+pub record HubStepsTo (before : EmbeddedHub) (line : List ℕ) (answer : Answer) (after : EmbeddedHub) : Type 0 where
   pub outcome : HubOutcome
   pub answer_is : IsHubAnswer (hub_status_of outcome after) (hub_reason_of outcome after) after answer
   pub stepped : IsStepped before line outcome after
 
 -- the same for what is open
-abbrev pub hub_stepped_by : Option KeptHub → HubSlot → List ℕ → Answer → HubSlot → Type 0
-hub_stepped_by (Some kept) before line answer after = HubOpen (HubStepsTo kept line answer) after
+abbrev pub hub_stepped_by : Option EmbeddedHub → HubSlot → List ℕ → Answer → HubSlot → Type 0
+hub_stepped_by (Some embedded) before line answer after = HubOpen (HubStepsTo embedded line answer) after
 hub_stepped_by None before line answer after = (after ≡ before) × IsNotOpen answer
 
 abbrev pub HubSteps : HubSlot → List ℕ → Answer → HubSlot → Type 0
@@ -101,23 +101,23 @@ abbrev pub hub_stepped_at : Ptr → HubSlot → List ℕ → Answer → Fml
 hub_stepped_at at before line answer = some_hub_slot_at at (HubSteps before line answer) (IsNotOpen answer)
 
 -- a part that was asked for and shown, or not, as this outcome says
-pub record HubShowsPart (before : KeptHub) (part : HubPart) (answer : Answer) (after : KeptHub) : Type 0 where
+pub record HubShowsPart (before : EmbeddedHub) (part : HubPart) (answer : Answer) (after : EmbeddedHub) : Type 0 where
   pub outcome : HubOutcome
   pub answer_is : IsHubAnswer (hub_status_of outcome after) (hub_reason_of outcome after) after answer
   pub shown : IsShown before part outcome after
 
--- a part of the state; or the number is of none, and what is kept stays as it is
-abbrev pub hub_shows : KeptHub → Option HubPart → Answer → KeptHub → Type 0
+-- a part of the state; or the number is of none, and what is held stays as it is
+abbrev pub hub_shows : EmbeddedHub → Option HubPart → Answer → EmbeddedHub → Type 0
 hub_shows before (Some part) answer after = HubShowsPart before part answer after
 hub_shows before None answer after =
     (after ≡ before) × IsHubAnswer code.UNKNOWN_PART (no_place code.NO_CAUSE) before answer
 
-abbrev pub HubShowsTo : KeptHub → ℕ → ℕ → Answer → KeptHub → Type 0
+abbrev pub HubShowsTo : EmbeddedHub → ℕ → ℕ → Answer → EmbeddedHub → Type 0
 HubShowsTo before number view answer after = hub_shows before (hub_part_of number view) answer after
 
 -- the same for what is open
-abbrev pub hub_shown_by : Option KeptHub → HubSlot → ℕ → ℕ → Answer → HubSlot → Type 0
-hub_shown_by (Some kept) before number view answer after = HubOpen (HubShowsTo kept number view answer) after
+abbrev pub hub_shown_by : Option EmbeddedHub → HubSlot → ℕ → ℕ → Answer → HubSlot → Type 0
+hub_shown_by (Some embedded) before number view answer after = HubOpen (HubShowsTo embedded number view answer) after
 hub_shown_by None before number view answer after = (after ≡ before) × IsNotOpen answer
 
 abbrev pub HubShows : HubSlot → ℕ → ℕ → Answer → HubSlot → Type 0
@@ -127,18 +127,18 @@ abbrev pub hub_shown_at : Ptr → HubSlot → ℕ → ℕ → Answer → Fml
 hub_shown_at at before number view answer = some_hub_slot_at at (HubShows before number view answer) (IsNotOpen answer)
 
 -- the text was written to the buffer if there was room, and the status says which
-pub record HubWritesTo (kept : KeptHub) (answer : Answer) (old new : List ℕ) : Type 0 where
+pub record HubWritesTo (embedded : EmbeddedHub) (answer : Answer) (old new : List ℕ) : Type 0 where
   pub fitted : Bool
-  pub written : IsWritten (text_of kept) old fitted new
-  pub answer_is : IsHubAnswer (text_status fitted) (no_place code.NO_CAUSE) kept answer
+  pub written : IsWritten (text_of embedded) old fitted new
+  pub answer_is : IsHubAnswer (text_status fitted) (no_place code.NO_CAUSE) embedded answer
 
--- what is kept stays as it is, and its text is written
-abbrev pub HubWritesKept : KeptHub → Answer → List ℕ → List ℕ → KeptHub → Type 0
-HubWritesKept before answer old new after = (after ≡ before) × HubWritesTo before answer old new
+-- what is held stays as it is, and its text is written
+abbrev pub HubWritesEmbedded : EmbeddedHub → Answer → List ℕ → List ℕ → EmbeddedHub → Type 0
+HubWritesEmbedded before answer old new after = (after ≡ before) × HubWritesTo before answer old new
 
 -- the same for what is open; or the buffer stays as it is, too
-abbrev pub hub_written_by : Option KeptHub → HubSlot → Answer → List ℕ → List ℕ → HubSlot → Type 0
-hub_written_by (Some kept) before answer old new after = HubOpen (HubWritesKept kept answer old new) after
+abbrev pub hub_written_by : Option EmbeddedHub → HubSlot → Answer → List ℕ → List ℕ → HubSlot → Type 0
+hub_written_by (Some embedded) before answer old new after = HubOpen (HubWritesEmbedded embedded answer old new) after
 hub_written_by None before answer old new after = (after ≡ before) × IsUntouched answer old new
 
 abbrev pub HubWrites : HubSlot → Answer → List ℕ → List ℕ → HubSlot → Type 0

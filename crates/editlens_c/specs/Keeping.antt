@@ -8,8 +8,8 @@ use Rattle.core.specs.Ptr.{if_non_null}
 use Rattle.edit_journal.specs.Pieces.{texts_of}
 use Rattle.texts.specs.declared.side.Side.{Side}
 use Rattle.texts.specs.declared.side.Side.TheVariants.{Left, Right}
-use Rattle.embed_session.specs.Kept.{IsOpened, IsImported, IsResumed, IsReopened, IsStepped, IsShown, text_of}
-use Rattle.embed_session.specs.declared.kept.Kept.{Kept}
+use Rattle.embed_session.specs.Embedded.{IsOpened, IsImported, IsResumed, IsReopened, IsStepped, IsShown, text_of}
+use Rattle.embed_session.specs.declared.embedded.EmbeddedSession.{EmbeddedSession}
 use Rattle.embed_session.specs.declared.outcome.Outcome.{Outcome}
 use Rattle.embed_session.specs.declared.outcome.Part.{Part}
 use Rattle.editlens_c.specs.Answers.{closed_status, status_of, IsAnswer, IsNotOpen, IsUntouched, part_of, IsWritten}
@@ -39,22 +39,22 @@ some_slot_at (block_ptr b o) Fact AtNull =
 some_slot_at null_ptr Fact AtNull = fex AtNull (λ _. ftrue)
 
 -- something is open for which the fact holds
-pub record Open (Fact : Kept → Type 0) (slot : Slot) : Type 0 where
-  pub kept : Kept
-  pub is_open : held_in slot ≡ Some kept
-  pub fact : Fact kept
+pub record Open (Fact : EmbeddedSession → Type 0) (slot : Slot) : Type 0 where
+  pub embedded : EmbeddedSession
+  pub is_open : held_in slot ≡ Some embedded
+  pub fact : Fact embedded
 
 -- what was opened, and the status that says whether it is a session
-pub record Opened (Fact : Kept → Type 0) (status : ℕ) (slot : Slot) : Type 0 where
-  pub kept : Kept
-  pub is_open : held_in slot ≡ Some kept
-  pub fact : Fact kept
-  pub status_is : status ≡ closed_status kept
+pub record Opened (Fact : EmbeddedSession → Type 0) (status : ℕ) (slot : Slot) : Type 0 where
+  pub embedded : EmbeddedSession
+  pub is_open : held_in slot ≡ Some embedded
+  pub fact : Fact embedded
+  pub status_is : status ≡ closed_status embedded
 
 -- opened, where nothing was open; where something was, it stays as it is
-abbrev pub opens : Option Kept → (Kept → Type 0) → Slot → ℕ → Slot → Type 0
+abbrev pub opens : Option EmbeddedSession → (EmbeddedSession → Type 0) → Slot → ℕ → Slot → Type 0
 opens None Fact before status after = Opened Fact status after
-opens (Some kept) Fact before status after = (status ≡ code.NOT_OPEN) × (after ≡ before)
+opens (Some embedded) Fact before status after = (status ≡ code.NOT_OPEN) × (after ≡ before)
 
 -- a program was opened
 abbrev pub Opens : Slot → List ℕ → ℕ → Slot → Type 0
@@ -98,9 +98,9 @@ abbrev pub reopened_at : Ptr → Slot → List ℕ → ℕ → Fml
 reopened_at at before records status = some_slot_at at (Reopens before records status) (status ≡ code.NOT_OPEN)
 
 -- nothing changes, and the answer says what is open
-abbrev pub told_by : Option Kept → Slot → Answer → Slot → Type 0
-told_by (Some kept) before answer after =
-    (after ≡ before) × IsAnswer (closed_status kept) (closed_reason kept) kept answer
+abbrev pub told_by : Option EmbeddedSession → Slot → Answer → Slot → Type 0
+told_by (Some embedded) before answer after =
+    (after ≡ before) × IsAnswer (closed_status embedded) (closed_reason embedded) embedded answer
 told_by None before answer after = (after ≡ before) × IsNotOpen answer
 
 abbrev pub Tells : Slot → Answer → Slot → Type 0
@@ -110,14 +110,14 @@ abbrev pub told_at : Ptr → Slot → Answer → Fml
 told_at at before answer = some_slot_at at (Tells before answer) (IsNotOpen answer)
 
 -- a step by a line that ends so
-pub record StepsTo (before : Kept) (line : List ℕ) (answer : Answer) (after : Kept) : Type 0 where
+pub record StepsTo (before : EmbeddedSession) (line : List ℕ) (answer : Answer) (after : EmbeddedSession) : Type 0 where
   pub outcome : Outcome
   pub answer_is : IsAnswer (status_of outcome after) (reason_of outcome after) after answer
   pub stepped : IsStepped before line outcome after
 
 -- the same for what is open
-abbrev pub stepped_by : Option Kept → Slot → List ℕ → Answer → Slot → Type 0
-stepped_by (Some kept) before line answer after = Open (StepsTo kept line answer) after
+abbrev pub stepped_by : Option EmbeddedSession → Slot → List ℕ → Answer → Slot → Type 0
+stepped_by (Some embedded) before line answer after = Open (StepsTo embedded line answer) after
 stepped_by None before line answer after = (after ≡ before) × IsNotOpen answer
 
 abbrev pub Steps : Slot → List ℕ → Answer → Slot → Type 0
@@ -127,22 +127,22 @@ abbrev pub stepped_at : Ptr → Slot → List ℕ → Answer → Fml
 stepped_at at before line answer = some_slot_at at (Steps before line answer) (IsNotOpen answer)
 
 -- a part that was asked for and shown, or not, as this outcome says
-pub record ShowsPart (before : Kept) (part : Part) (answer : Answer) (after : Kept) : Type 0 where
+pub record ShowsPart (before : EmbeddedSession) (part : Part) (answer : Answer) (after : EmbeddedSession) : Type 0 where
   pub outcome : Outcome
   pub answer_is : IsAnswer (status_of outcome after) (reason_of outcome after) after answer
   pub shown : IsShown before part outcome after
 
--- a part of the state; or the number is of none, and what is kept stays as it is
-abbrev pub shows : Kept → Option Part → Answer → Kept → Type 0
+-- a part of the state; or the number is of none, and what is held stays as it is
+abbrev pub shows : EmbeddedSession → Option Part → Answer → EmbeddedSession → Type 0
 shows before (Some part) answer after = ShowsPart before part answer after
 shows before None answer after = (after ≡ before) × IsAnswer code.UNKNOWN_PART (no_place code.NO_CAUSE) before answer
 
-abbrev pub ShowsTo : Kept → ℕ → Answer → Kept → Type 0
+abbrev pub ShowsTo : EmbeddedSession → ℕ → Answer → EmbeddedSession → Type 0
 ShowsTo before number answer after = shows before (part_of number) answer after
 
 -- the same for what is open
-abbrev pub shown_by : Option Kept → Slot → ℕ → Answer → Slot → Type 0
-shown_by (Some kept) before number answer after = Open (ShowsTo kept number answer) after
+abbrev pub shown_by : Option EmbeddedSession → Slot → ℕ → Answer → Slot → Type 0
+shown_by (Some embedded) before number answer after = Open (ShowsTo embedded number answer) after
 shown_by None before number answer after = (after ≡ before) × IsNotOpen answer
 
 abbrev pub Shows : Slot → ℕ → Answer → Slot → Type 0
@@ -156,18 +156,18 @@ text_status true = code.DONE
 text_status false = code.SMALL_BUFFER
 
 -- the text was written to the buffer if there was room, and the status says which
-pub record WritesTo (kept : Kept) (answer : Answer) (old new : List ℕ) : Type 0 where
+pub record WritesTo (embedded : EmbeddedSession) (answer : Answer) (old new : List ℕ) : Type 0 where
   pub fitted : Bool
-  pub written : IsWritten (text_of kept) old fitted new
-  pub answer_is : IsAnswer (text_status fitted) (no_place code.NO_CAUSE) kept answer
+  pub written : IsWritten (text_of embedded) old fitted new
+  pub answer_is : IsAnswer (text_status fitted) (no_place code.NO_CAUSE) embedded answer
 
--- what is kept stays as it is, and its text is written
-abbrev pub WritesKept : Kept → Answer → List ℕ → List ℕ → Kept → Type 0
-WritesKept before answer old new after = (after ≡ before) × WritesTo before answer old new
+-- what is held stays as it is, and its text is written
+abbrev pub WritesEmbedded : EmbeddedSession → Answer → List ℕ → List ℕ → EmbeddedSession → Type 0
+WritesEmbedded before answer old new after = (after ≡ before) × WritesTo before answer old new
 
 -- the same for what is open; or the buffer stays as it is, too
-abbrev pub written_by : Option Kept → Slot → Answer → List ℕ → List ℕ → Slot → Type 0
-written_by (Some kept) before answer old new after = Open (WritesKept kept answer old new) after
+abbrev pub written_by : Option EmbeddedSession → Slot → Answer → List ℕ → List ℕ → Slot → Type 0
+written_by (Some embedded) before answer old new after = Open (WritesEmbedded embedded answer old new) after
 written_by None before answer old new after = (after ≡ before) × IsUntouched answer old new
 
 abbrev pub Writes : Slot → Answer → List ℕ → List ℕ → Slot → Type 0

@@ -13,8 +13,8 @@ use Rattle.lens_types.specs.declared.fault.TypeFault.{TypeFault}
 use Rattle.lens_types.specs.declared.fault.TypeFault.TheVariants as typing
 use Rattle.store_records.specs.declared.record_fault.RecordFault.{RecordFault}
 use Rattle.store_records.specs.declared.record_fault.RecordFault.TheVariants as record_fault
-use Rattle.embed_session.specs.declared.kept.Kept.{Kept}
-use Rattle.embed_session.specs.declared.kept.Kept.TheVariants as kept
+use Rattle.embed_session.specs.declared.embedded.EmbeddedSession.{EmbeddedSession}
+use Rattle.embed_session.specs.declared.embedded.EmbeddedSession.TheVariants as embedded
 use Rattle.embed_session.specs.declared.outcome.Outcome.{Outcome}
 use Rattle.embed_session.specs.declared.outcome.Outcome.TheVariants as outcome
 use Rattle.embed_session.specs.declared.outcome.StateFault.{StateFault}
@@ -108,16 +108,16 @@ record_reason record_fault.NoMemory = no_place code.NO_CAUSE
 -- ---- calls
 
 -- why there is no session
-abbrev pub closed_reason : Kept → Reason
-closed_reason (kept.Open r) = no_place code.NO_CAUSE
-closed_reason (kept.Refused refused line) =
+abbrev pub closed_reason : EmbeddedSession → Reason
+closed_reason (embedded.Open r) = no_place code.NO_CAUSE
+closed_reason (embedded.Refused refused line) =
     record { cause = program_cause refused; part = 0; at = program_offset refused }
-closed_reason (kept.StateRefused fault) = no_place (state_cause fault)
-closed_reason (kept.RecordsRefused fault) = record_reason fault
-closed_reason kept.NoMemory = no_place code.NO_CAUSE
+closed_reason (embedded.StateRefused fault) = no_place (state_cause fault)
+closed_reason (embedded.RecordsRefused fault) = record_reason fault
+closed_reason embedded.NoMemory = no_place code.NO_CAUSE
 
 -- why a call ended so
-abbrev pub reason_of : Outcome → Kept → Reason
+abbrev pub reason_of : Outcome → EmbeddedSession → Reason
 reason_of (outcome.NoApply part at cause) k = record { cause = item_cause cause; part = part; at = at }
 reason_of (outcome.NotAChange fault) k = no_place (line_cause fault)
 reason_of outcome.NoSession k = closed_reason k

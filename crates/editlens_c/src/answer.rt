@@ -6,7 +6,7 @@ ghost use Rattle.editlens_c.specs.Reasons.{no_place, closed_reason, reason_of};
 
 use crate::codes::*;
 use crate::reasons::{Reason, closed_reason, reason_of};
-use embed_session::{Kept, Outcome, Part};
+use embed_session::{EmbeddedSession, Outcome, Part};
 
 /// A status with its numbers, and the number of bytes of the text.
 #[repr(C)]
@@ -51,29 +51,33 @@ pub(crate) fn not_open() -> Answer
 }
 
 // The answer to a call that ended so.
-pub(crate) fn answer_to(outcome: Outcome, kept: &Kept) -> Answer
-    ensures { IsAnswer (status_of outcome kept.now) (reason_of outcome kept.now) kept.now result }
+pub(crate) fn answer_to(outcome: Outcome, embedded: &EmbeddedSession) -> Answer
+    ensures { IsAnswer (status_of outcome embedded.now) (reason_of outcome embedded.now) embedded.now result }
 {
-    answer_with(status_of(outcome, kept), reason_of(outcome, kept), kept)
+    answer_with(
+        status_of(outcome, embedded),
+        reason_of(outcome, embedded),
+        embedded,
+    )
 }
 
 // The answer to the question of whether there is a session.
-pub(crate) fn standing_of(kept: &Kept) -> Answer
-    ensures { IsAnswer (closed_status kept.now) (closed_reason kept.now) kept.now result }
+pub(crate) fn standing_of(embedded: &EmbeddedSession) -> Answer
+    ensures { IsAnswer (closed_status embedded.now) (closed_reason embedded.now) embedded.now result }
 {
-    answer_with(closed_status(kept), closed_reason(kept), kept)
+    answer_with(closed_status(embedded), closed_reason(embedded), embedded)
 }
 
 // An answer with no cause.
-pub(crate) fn plain_answer(status: u32, kept: &Kept) -> Answer
-    ensures { IsAnswer status (no_place NO_CAUSE) kept.now result }
+pub(crate) fn plain_answer(status: u32, embedded: &EmbeddedSession) -> Answer
+    ensures { IsAnswer status (no_place NO_CAUSE) embedded.now result }
 {
     let none = Reason {
         cause: NO_CAUSE,
         part: 0,
         at: 0,
     };
-    answer_with(status, none, kept)
+    answer_with(status, none, embedded)
 }
 
 // The same, with a buffer that stays as it was.
@@ -83,24 +87,24 @@ pub(crate) fn untouched(out: &mut [u8]) -> Answer
     not_open()
 }
 
-fn answer_with(status: u32, reason: Reason, kept: &Kept) -> Answer
-    ensures { IsAnswer status reason kept.now result }
+fn answer_with(status: u32, reason: Reason, embedded: &EmbeddedSession) -> Answer
+    ensures { IsAnswer status reason embedded.now result }
 {
     Answer {
         status,
         cause: reason.cause,
-        number: number_of(kept),
+        number: number_of(embedded),
         part: reason.part,
         at: reason.at,
-        len: kept.text().len(),
+        len: embedded.text().len(),
         size: ANSWER_SIZE,
         spare_1: 0,
         spare_2: 0,
     }
 }
 
-fn status_of(outcome: Outcome, kept: &Kept) -> u32
-    ensures { result ≡ status_of outcome kept.now }
+fn status_of(outcome: Outcome, embedded: &EmbeddedSession) -> u32
+    ensures { result ≡ status_of outcome embedded.now }
 {
     match outcome {
         Outcome::Done => DONE,
@@ -110,30 +114,33 @@ fn status_of(outcome: Outcome, kept: &Kept) -> u32
         Outcome::Full => FULL,
         Outcome::NoChange => NO_CHANGE,
         Outcome::NoMemory => NO_MEMORY,
-        Outcome::NoSession => closed_status(kept),
+        Outcome::NoSession => closed_status(embedded),
     }
 }
 
 // Why there is no session, or that there is one.
-pub(crate) fn closed_status(kept: &Kept) -> u32
-    ensures { result ≡ closed_status kept.now }
+pub(crate) fn closed_status(embedded: &EmbeddedSession) -> u32
+    ensures { result ≡ closed_status embedded.now }
 {
-    match kept {
-        Kept::Open(_) => DONE,
-        Kept::Refused(_, _) => PROGRAM_REFUSED,
-        Kept::StateRefused(_) => STATE_REFUSED,
-        Kept::RecordsRefused(_) => RECORDS_REFUSED,
-        Kept::NoMemory => NO_SESSION,
+    match embedded {
+        EmbeddedSession::Open(_) => DONE,
+        EmbeddedSession::Refused(_, _) => PROGRAM_REFUSED,
+        EmbeddedSession::StateRefused(_) => STATE_REFUSED,
+        EmbeddedSession::RecordsRefused(_) => RECORDS_REFUSED,
+        EmbeddedSession::NoMemory => NO_SESSION,
     }
 }
 
 // How many items were given.
-fn number_of(kept: &Kept) -> u64
-    ensures { result ≡ number_of kept.now }
+fn number_of(embedded: &EmbeddedSession) -> u64
+    ensures { result ≡ number_of embedded.now }
 {
-    match kept {
-        Kept::Open(running) => running.number,
-        Kept::Refused(_, _) | Kept::StateRefused(_) | Kept::RecordsRefused(_) | Kept::NoMemory => 0,
+    match embedded {
+        EmbeddedSession::Open(running) => running.number,
+        EmbeddedSession::Refused(_, _)
+        | EmbeddedSession::StateRefused(_)
+        | EmbeddedSession::RecordsRefused(_)
+        | EmbeddedSession::NoMemory => 0,
     }
 }
 

@@ -10,52 +10,56 @@ use crate::answer::Answer;
 use crate::codes::*;
 use crate::hub_codes::*;
 use crate::reasons::{Reason, alone, item_cause, line_cause, program_cause, program_offset};
-use embed_hub::{HubOutcome, HubPart, HubStateFault, KeptHub};
+use embed_hub::{EmbeddedHub, HubOutcome, HubPart, HubStateFault};
 use hub_run::HubRefused;
 
 // The answer to a call on a hub that ended so.
-pub(crate) fn hub_answer_to(outcome: HubOutcome, kept: &KeptHub) -> Answer
-    ensures { IsHubAnswer (hub_status_of outcome kept.now) (hub_reason_of outcome kept.now) kept.now result }
+pub(crate) fn hub_answer_to(outcome: HubOutcome, embedded: &EmbeddedHub) -> Answer
+    ensures { IsHubAnswer (hub_status_of outcome embedded.now) (hub_reason_of outcome embedded.now) embedded.now result }
 {
     hub_answer_with(
-        hub_status_of(outcome, kept),
-        hub_reason_of(outcome, kept),
-        kept,
+        hub_status_of(outcome, embedded),
+        hub_reason_of(outcome, embedded),
+        embedded,
     )
 }
 
 // The answer to the question of whether there is a hub.
-pub(crate) fn hub_standing_of(kept: &KeptHub) -> Answer
-    ensures { IsHubAnswer (hub_closed_status kept.now) (hub_closed_reason kept.now) kept.now result }
+pub(crate) fn hub_standing_of(embedded: &EmbeddedHub) -> Answer
+    ensures { IsHubAnswer (hub_closed_status embedded.now) (hub_closed_reason embedded.now) embedded.now result }
 {
-    hub_answer_with(hub_closed_status(kept), hub_closed_reason(kept), kept)
+    hub_answer_with(
+        hub_closed_status(embedded),
+        hub_closed_reason(embedded),
+        embedded,
+    )
 }
 
 // An answer of a hub with no cause.
-pub(crate) fn hub_plain_answer(status: u32, kept: &KeptHub) -> Answer
-    ensures { IsHubAnswer status (no_place NO_CAUSE) kept.now result }
+pub(crate) fn hub_plain_answer(status: u32, embedded: &EmbeddedHub) -> Answer
+    ensures { IsHubAnswer status (no_place NO_CAUSE) embedded.now result }
 {
-    hub_answer_with(status, alone(NO_CAUSE), kept)
+    hub_answer_with(status, alone(NO_CAUSE), embedded)
 }
 
-fn hub_answer_with(status: u32, reason: Reason, kept: &KeptHub) -> Answer
-    ensures { IsHubAnswer status reason kept.now result }
+fn hub_answer_with(status: u32, reason: Reason, embedded: &EmbeddedHub) -> Answer
+    ensures { IsHubAnswer status reason embedded.now result }
 {
     Answer {
         status,
         cause: reason.cause,
-        number: hub_number_of(kept),
+        number: hub_number_of(embedded),
         part: reason.part,
         at: reason.at,
-        len: kept.text().len(),
+        len: embedded.text().len(),
         size: ANSWER_SIZE,
         spare_1: 0,
         spare_2: 0,
     }
 }
 
-fn hub_status_of(outcome: HubOutcome, kept: &KeptHub) -> u32
-    ensures { result ≡ hub_status_of outcome kept.now }
+fn hub_status_of(outcome: HubOutcome, embedded: &EmbeddedHub) -> u32
+    ensures { result ≡ hub_status_of outcome embedded.now }
 {
     match outcome {
         HubOutcome::Done => DONE,
@@ -64,35 +68,35 @@ fn hub_status_of(outcome: HubOutcome, kept: &KeptHub) -> u32
         HubOutcome::LineFeed => LINE_FEED,
         HubOutcome::Full => FULL,
         HubOutcome::NoMemory => NO_MEMORY,
-        HubOutcome::NoHub => hub_closed_status(kept),
+        HubOutcome::NoHub => hub_closed_status(embedded),
     }
 }
 
 // Why there is no hub, or that there is one.
-pub(crate) fn hub_closed_status(kept: &KeptHub) -> u32
-    ensures { result ≡ hub_closed_status kept.now }
+pub(crate) fn hub_closed_status(embedded: &EmbeddedHub) -> u32
+    ensures { result ≡ hub_closed_status embedded.now }
 {
-    match kept {
-        KeptHub::Open(_) => DONE,
-        KeptHub::Refused(_, _) => PROGRAM_REFUSED,
-        KeptHub::StateRefused(_) => STATE_REFUSED,
-        KeptHub::NoMemory => NO_SESSION,
+    match embedded {
+        EmbeddedHub::Open(_) => DONE,
+        EmbeddedHub::Refused(_, _) => PROGRAM_REFUSED,
+        EmbeddedHub::StateRefused(_) => STATE_REFUSED,
+        EmbeddedHub::NoMemory => NO_SESSION,
     }
 }
 
 // How many items were given.
-fn hub_number_of(kept: &KeptHub) -> u64
-    ensures { result ≡ hub_number_of kept.now }
+fn hub_number_of(embedded: &EmbeddedHub) -> u64
+    ensures { result ≡ hub_number_of embedded.now }
 {
-    match kept {
-        KeptHub::Open(running) => running.number,
-        KeptHub::Refused(_, _) | KeptHub::StateRefused(_) | KeptHub::NoMemory => 0,
+    match embedded {
+        EmbeddedHub::Open(running) => running.number,
+        EmbeddedHub::Refused(_, _) | EmbeddedHub::StateRefused(_) | EmbeddedHub::NoMemory => 0,
     }
 }
 
 // Why a call on a hub ended so.
-fn hub_reason_of(outcome: HubOutcome, kept: &KeptHub) -> Reason
-    ensures { result ≡ hub_reason_of outcome kept.now }
+fn hub_reason_of(outcome: HubOutcome, embedded: &EmbeddedHub) -> Reason
+    ensures { result ≡ hub_reason_of outcome embedded.now }
 {
     match outcome {
         HubOutcome::NoView => alone(NO_VIEW),
@@ -102,7 +106,7 @@ fn hub_reason_of(outcome: HubOutcome, kept: &KeptHub) -> Reason
             at,
         },
         HubOutcome::NotAnEdit(fault) => alone(line_cause(fault)),
-        HubOutcome::NoHub => hub_closed_reason(kept),
+        HubOutcome::NoHub => hub_closed_reason(embedded),
         HubOutcome::Done
         | HubOutcome::Blank
         | HubOutcome::LineFeed
@@ -112,13 +116,13 @@ fn hub_reason_of(outcome: HubOutcome, kept: &KeptHub) -> Reason
 }
 
 // Why there is no hub.
-fn hub_closed_reason(kept: &KeptHub) -> Reason
-    ensures { result ≡ hub_closed_reason kept.now }
+fn hub_closed_reason(embedded: &EmbeddedHub) -> Reason
+    ensures { result ≡ hub_closed_reason embedded.now }
 {
-    match kept {
-        KeptHub::Refused(refused, _) => hub_refusal_reason(refused),
-        KeptHub::StateRefused(fault) => hub_state_reason(*fault),
-        KeptHub::Open(_) | KeptHub::NoMemory => alone(NO_CAUSE),
+    match embedded {
+        EmbeddedHub::Refused(refused, _) => hub_refusal_reason(refused),
+        EmbeddedHub::StateRefused(fault) => hub_state_reason(*fault),
+        EmbeddedHub::Open(_) | EmbeddedHub::NoMemory => alone(NO_CAUSE),
     }
 }
 

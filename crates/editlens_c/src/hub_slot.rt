@@ -3,7 +3,7 @@ ghost use Rattle.std.specs.Prelude.{◌≡◌};
 ghost use Rattle.editlens_c.specs.HubSlots.{IsHubPut, IsHubEnded, is_hub_taken};
 
 use crate::codes::{DONE, HUB_WORD, NOT_OPEN};
-use embed_hub::KeptHub;
+use embed_hub::EmbeddedHub;
 
 /// A word, and a hub behind it if the word is the word of magic. Any other word says that nothing is open, whatever
 /// is behind it.
@@ -11,7 +11,7 @@ use embed_hub::KeptHub;
 #[derive(Drop)]
 pub(crate) struct HubSlot {
     pub(crate) word: u64,
-    pub(crate) kept: Option<KeptHub>,
+    pub(crate) embedded: Option<EmbeddedHub>,
 }
 
 impl HubSlot {
@@ -19,16 +19,16 @@ impl HubSlot {
     pub(crate) fn is_open(&self) -> bool
         ensures { result ≡ is_hub_taken self.now }
     {
-        self.word == HUB_WORD && self.kept.is_some()
+        self.word == HUB_WORD && self.embedded.is_some()
     }
 
-    // Puts what is kept here. What was here is bytes without a meaning, so nothing of it is dropped.
-    pub(crate) fn put(&mut self, kept: KeptHub)
-        ensures { IsHubPut kept self.new }
+    // Puts what is held here. What was here is bytes without a meaning, so nothing of it is dropped.
+    pub(crate) fn put(&mut self, embedded: EmbeddedHub)
+        ensures { IsHubPut embedded self.new }
     {
         let slot = HubSlot {
             word: HUB_WORD,
-            kept: Some(kept),
+            embedded: Some(embedded),
         };
         std::mem::forget(std::mem::replace(self, slot));
     }
@@ -41,7 +41,7 @@ impl HubSlot {
             return NOT_OPEN;
         }
         self.word = 0;
-        self.kept = None;
+        self.embedded = None;
         DONE
     }
 }

@@ -7,7 +7,7 @@ ghost use Rattle.edit_journal.specs.Pieces.{texts_of};
 ghost use Rattle.editlens_c.specs.HubKeeping.{hub_slot_type, hub_slot_size, hub_slot_at, hub_opened_at, hub_resumed_at};
 ghost use Rattle.editlens_c.specs.HubKeeping.{hub_told_at, hub_stepped_at, hub_shown_at, hub_written_at, hub_ended_at};
 ghost use Rattle.editlens_c.specs.HubKeeping.{HubOpens, HubResumes, HubTells, HubSteps, HubStepsTo, HubShows};
-ghost use Rattle.editlens_c.specs.HubKeeping.{HubShowsTo, HubWrites, HubWritesKept, HubEnds};
+ghost use Rattle.editlens_c.specs.HubKeeping.{HubShowsTo, HubWrites, HubWritesEmbedded, HubEnds};
 
 use crate::answer::{Answer, is_written, not_open, untouched};
 use crate::codes::{DONE, NOT_OPEN, SMALL_BUFFER, UNKNOWN_PART};
@@ -15,7 +15,7 @@ use crate::hub_answer::{
     hub_answer_to, hub_closed_status, hub_part_of, hub_plain_answer, hub_standing_of,
 };
 use crate::hub_slot::HubSlot;
-use embed_hub::KeptHub;
+use embed_hub::EmbeddedHub;
 use std::alloc::Global;
 
 /// How many bytes a hub takes. The caller's memory is aligned to 16 bytes, and they are 0 before its first use.
@@ -57,9 +57,9 @@ fn opened(alloc: Global, slot: &mut HubSlot, programs: &[u8]) -> u32
     if slot.is_open() {
         return NOT_OPEN;
     }
-    let kept = KeptHub::open(alloc, programs);
-    let status = hub_closed_status(&kept);
-    slot.put(kept);
+    let embedded = EmbeddedHub::open(alloc, programs);
+    let status = hub_closed_status(&embedded);
+    slot.put(embedded);
     status
 }
 
@@ -100,9 +100,9 @@ fn resumed(alloc: Global, slot: &mut HubSlot, programs: &[u8], state: &[u8]) -> 
     if slot.is_open() {
         return NOT_OPEN;
     }
-    let kept = KeptHub::resume(alloc, programs, state);
-    let status = hub_closed_status(&kept);
-    slot.put(kept);
+    let embedded = EmbeddedHub::resume(alloc, programs, state);
+    let status = hub_closed_status(&embedded);
+    slot.put(embedded);
     status
 }
 
@@ -130,8 +130,8 @@ fn told(slot: &mut HubSlot) -> Answer
     if !slot.is_open() {
         return not_open();
     }
-    match &slot.kept {
-        Some(kept) => hub_standing_of(kept),
+    match &slot.embedded {
+        Some(embedded) => hub_standing_of(embedded),
         None => not_open(),
     }
 }
@@ -160,17 +160,17 @@ fn stepped(alloc: Global, slot: &mut HubSlot, line: &[u8]) -> Answer
     if !slot.is_open() {
         return not_open();
     }
-    match &mut slot.kept {
-        Some(kept) => step_kept(alloc, kept, line),
+    match &mut slot.embedded {
+        Some(embedded) => step_embedded(alloc, embedded, line),
         None => not_open(),
     }
 }
 
-fn step_kept(alloc: Global, kept: &mut KeptHub, line: &[u8]) -> Answer
-    ensures { HubStepsTo kept.old line.now result kept.new }
+fn step_embedded(alloc: Global, embedded: &mut EmbeddedHub, line: &[u8]) -> Answer
+    ensures { HubStepsTo embedded.old line.now result embedded.new }
 {
-    let outcome = kept.step(alloc, line);
-    hub_answer_to(outcome, kept)
+    let outcome = embedded.step(alloc, line);
+    hub_answer_to(outcome, embedded)
 }
 
 /// Makes a part of a hub's state the text: the part that has this number, and of the view that has the other number.
@@ -202,21 +202,21 @@ fn shown(alloc: Global, slot: &mut HubSlot, part: u32, view: u64) -> Answer
     if !slot.is_open() {
         return not_open();
     }
-    match &mut slot.kept {
-        Some(kept) => show_kept(alloc, kept, part, view),
+    match &mut slot.embedded {
+        Some(embedded) => show_embedded(alloc, embedded, part, view),
         None => not_open(),
     }
 }
 
-fn show_kept(alloc: Global, kept: &mut KeptHub, part: u32, view: u64) -> Answer
-    ensures { HubShowsTo kept.old part view result kept.new }
+fn show_embedded(alloc: Global, embedded: &mut EmbeddedHub, part: u32, view: u64) -> Answer
+    ensures { HubShowsTo embedded.old part view result embedded.new }
 {
     match hub_part_of(part, view) {
         Some(part) => {
-            let outcome = kept.show(alloc, part);
-            hub_answer_to(outcome, kept)
+            let outcome = embedded.show(alloc, part);
+            hub_answer_to(outcome, embedded)
         }
-        None => hub_plain_answer(UNKNOWN_PART, kept),
+        None => hub_plain_answer(UNKNOWN_PART, embedded),
     }
 }
 
@@ -245,19 +245,19 @@ fn texted(slot: &mut HubSlot, out: &mut [u8]) -> Answer
     if !slot.is_open() {
         return untouched({ out });
     }
-    match &mut slot.kept {
-        Some(kept) => text_kept(kept, { out }),
+    match &mut slot.embedded {
+        Some(embedded) => text_embedded(embedded, { out }),
         None => untouched({ out }),
     }
 }
 
-fn text_kept(kept: &mut KeptHub, out: &mut [u8]) -> Answer
-    ensures { HubWritesKept kept.old result out.old out.new kept.new }
+fn text_embedded(embedded: &mut EmbeddedHub, out: &mut [u8]) -> Answer
+    ensures { HubWritesEmbedded embedded.old result out.old out.new embedded.new }
 {
-    if is_written(kept.text(), out) {
-        hub_plain_answer(DONE, kept)
+    if is_written(embedded.text(), out) {
+        hub_plain_answer(DONE, embedded)
     } else {
-        hub_plain_answer(SMALL_BUFFER, kept)
+        hub_plain_answer(SMALL_BUFFER, embedded)
     }
 }
 

@@ -6,7 +6,7 @@ ghost use Rattle.editlens_c.specs.Reasons.{program_offset, state_cause, record_r
 use crate::codes::*;
 use edit_journal::EntryFault;
 use edit_module::Cause;
-use embed_session::{Kept, Outcome, StateFault};
+use embed_session::{EmbeddedSession, Outcome, StateFault};
 use lens_syntax::ProgramFault;
 use lens_types::TypeFault;
 use program_accepted::Refused;
@@ -21,8 +21,8 @@ pub struct Reason {
 }
 
 // Why a call ended so.
-pub(crate) fn reason_of(outcome: Outcome, kept: &Kept) -> Reason
-    ensures { result ≡ reason_of outcome kept.now }
+pub(crate) fn reason_of(outcome: Outcome, embedded: &EmbeddedSession) -> Reason
+    ensures { result ≡ reason_of outcome embedded.now }
 {
     match outcome {
         Outcome::NoApply { part, at, cause } => Reason {
@@ -31,7 +31,7 @@ pub(crate) fn reason_of(outcome: Outcome, kept: &Kept) -> Reason
             at,
         },
         Outcome::NotAChange(fault) => alone(line_cause(fault)),
-        Outcome::NoSession => closed_reason(kept),
+        Outcome::NoSession => closed_reason(embedded),
         Outcome::Done
         | Outcome::Blank
         | Outcome::LineFeed
@@ -42,18 +42,18 @@ pub(crate) fn reason_of(outcome: Outcome, kept: &Kept) -> Reason
 }
 
 // Why there is no session.
-pub(crate) fn closed_reason(kept: &Kept) -> Reason
-    ensures { result ≡ closed_reason kept.now }
+pub(crate) fn closed_reason(embedded: &EmbeddedSession) -> Reason
+    ensures { result ≡ closed_reason embedded.now }
 {
-    match kept {
-        Kept::Refused(refused, _) => Reason {
+    match embedded {
+        EmbeddedSession::Refused(refused, _) => Reason {
             cause: program_cause(refused),
             part: 0,
             at: program_offset(refused),
         },
-        Kept::StateRefused(fault) => alone(state_cause(*fault)),
-        Kept::RecordsRefused(fault) => record_reason(*fault),
-        Kept::Open(_) | Kept::NoMemory => alone(NO_CAUSE),
+        EmbeddedSession::StateRefused(fault) => alone(state_cause(*fault)),
+        EmbeddedSession::RecordsRefused(fault) => record_reason(*fault),
+        EmbeddedSession::Open(_) | EmbeddedSession::NoMemory => alone(NO_CAUSE),
     }
 }
 

@@ -6,7 +6,7 @@ ghost use Rattle.editlens_c.specs.Keeping.{slot_type, slot_size, slot_at, opened
 ghost use Rattle.editlens_c.specs.Keeping.{imported_right_at, resumed_at, reopened_at, told_at, stepped_at, shown_at};
 ghost use Rattle.editlens_c.specs.Keeping.{written_at, ended_at};
 ghost use Rattle.editlens_c.specs.Keeping.{Opens, ImportsLeft, ImportsRight, Resumes, Reopens, Tells, Steps, StepsTo};
-ghost use Rattle.editlens_c.specs.Keeping.{Shows, ShowsTo, Writes, WritesKept, Ends};
+ghost use Rattle.editlens_c.specs.Keeping.{Shows, ShowsTo, Writes, WritesEmbedded, Ends};
 
 use crate::answer::{
     Answer, answer_to, closed_status, is_written, not_open, part_of, plain_answer, standing_of,
@@ -14,7 +14,7 @@ use crate::answer::{
 };
 use crate::codes::{DONE, NOT_OPEN, SMALL_BUFFER, UNKNOWN_PART};
 use crate::slot::Slot;
-use embed_session::Kept;
+use embed_session::EmbeddedSession;
 use std::alloc::Global;
 use texts::Side;
 
@@ -56,9 +56,9 @@ fn opened(alloc: Global, slot: &mut Slot, program: &[u8]) -> u32
     if slot.is_open() {
         return NOT_OPEN;
     }
-    let kept = Kept::open(alloc, program);
-    let status = closed_status(&kept);
-    slot.put(kept);
+    let embedded = EmbeddedSession::open(alloc, program);
+    let status = closed_status(&embedded);
+    slot.put(embedded);
     status
 }
 
@@ -95,9 +95,9 @@ fn imported_left(alloc: Global, slot: &mut Slot, program: &[u8], document: &[u8]
     if slot.is_open() {
         return NOT_OPEN;
     }
-    let kept = Kept::import(alloc, program, Side::Left, document);
-    let status = closed_status(&kept);
-    slot.put(kept);
+    let embedded = EmbeddedSession::import(alloc, program, Side::Left, document);
+    let status = closed_status(&embedded);
+    slot.put(embedded);
     status
 }
 
@@ -130,9 +130,9 @@ fn imported_right(alloc: Global, slot: &mut Slot, program: &[u8], document: &[u8
     if slot.is_open() {
         return NOT_OPEN;
     }
-    let kept = Kept::import(alloc, program, Side::Right, document);
-    let status = closed_status(&kept);
-    slot.put(kept);
+    let embedded = EmbeddedSession::import(alloc, program, Side::Right, document);
+    let status = closed_status(&embedded);
+    slot.put(embedded);
     status
 }
 
@@ -184,9 +184,9 @@ fn resumed(
     if slot.is_open() {
         return NOT_OPEN;
     }
-    let kept = Kept::resume(alloc, program, left, complement, right);
-    let status = closed_status(&kept);
-    slot.put(kept);
+    let embedded = EmbeddedSession::resume(alloc, program, left, complement, right);
+    let status = closed_status(&embedded);
+    slot.put(embedded);
     status
 }
 
@@ -216,9 +216,9 @@ fn reopened(alloc: Global, slot: &mut Slot, records: &[u8]) -> u32
     if slot.is_open() {
         return NOT_OPEN;
     }
-    let kept = Kept::reopen(alloc, records);
-    let status = closed_status(&kept);
-    slot.put(kept);
+    let embedded = EmbeddedSession::reopen(alloc, records);
+    let status = closed_status(&embedded);
+    slot.put(embedded);
     status
 }
 
@@ -246,8 +246,8 @@ fn told(slot: &mut Slot) -> Answer
     if !slot.is_open() {
         return not_open();
     }
-    match &slot.kept {
-        Some(kept) => standing_of(kept),
+    match &slot.embedded {
+        Some(embedded) => standing_of(embedded),
         None => not_open(),
     }
 }
@@ -276,17 +276,17 @@ fn stepped(alloc: Global, slot: &mut Slot, line: &[u8]) -> Answer
     if !slot.is_open() {
         return not_open();
     }
-    match &mut slot.kept {
-        Some(kept) => step_kept(alloc, kept, line),
+    match &mut slot.embedded {
+        Some(embedded) => step_embedded(alloc, embedded, line),
         None => not_open(),
     }
 }
 
-fn step_kept(alloc: Global, kept: &mut Kept, line: &[u8]) -> Answer
-    ensures { StepsTo kept.old line.now result kept.new }
+fn step_embedded(alloc: Global, embedded: &mut EmbeddedSession, line: &[u8]) -> Answer
+    ensures { StepsTo embedded.old line.now result embedded.new }
 {
-    let outcome = kept.step(alloc, line);
-    answer_to(outcome, kept)
+    let outcome = embedded.step(alloc, line);
+    answer_to(outcome, embedded)
 }
 
 /// Makes a part of a session's state or of its last change the text: the one that has this number.
@@ -313,21 +313,21 @@ fn shown(alloc: Global, slot: &mut Slot, part: u32) -> Answer
     if !slot.is_open() {
         return not_open();
     }
-    match &mut slot.kept {
-        Some(kept) => show_kept(alloc, kept, part),
+    match &mut slot.embedded {
+        Some(embedded) => show_embedded(alloc, embedded, part),
         None => not_open(),
     }
 }
 
-fn show_kept(alloc: Global, kept: &mut Kept, part: u32) -> Answer
-    ensures { ShowsTo kept.old part result kept.new }
+fn show_embedded(alloc: Global, embedded: &mut EmbeddedSession, part: u32) -> Answer
+    ensures { ShowsTo embedded.old part result embedded.new }
 {
     match part_of(part) {
         Some(part) => {
-            let outcome = kept.show(alloc, part);
-            answer_to(outcome, kept)
+            let outcome = embedded.show(alloc, part);
+            answer_to(outcome, embedded)
         }
-        None => plain_answer(UNKNOWN_PART, kept),
+        None => plain_answer(UNKNOWN_PART, embedded),
     }
 }
 
@@ -356,19 +356,19 @@ fn texted(slot: &mut Slot, out: &mut [u8]) -> Answer
     if !slot.is_open() {
         return untouched({ out });
     }
-    match &mut slot.kept {
-        Some(kept) => text_kept(kept, { out }),
+    match &mut slot.embedded {
+        Some(embedded) => text_embedded(embedded, { out }),
         None => untouched({ out }),
     }
 }
 
-fn text_kept(kept: &mut Kept, out: &mut [u8]) -> Answer
-    ensures { WritesKept kept.old result out.old out.new kept.new }
+fn text_embedded(embedded: &mut EmbeddedSession, out: &mut [u8]) -> Answer
+    ensures { WritesEmbedded embedded.old result out.old out.new embedded.new }
 {
-    if is_written(kept.text(), out) {
-        plain_answer(DONE, kept)
+    if is_written(embedded.text(), out) {
+        plain_answer(DONE, embedded)
     } else {
-        plain_answer(SMALL_BUFFER, kept)
+        plain_answer(SMALL_BUFFER, embedded)
     }
 }
 

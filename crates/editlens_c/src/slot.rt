@@ -3,7 +3,7 @@ ghost use Rattle.std.specs.Prelude.{◌≡◌};
 ghost use Rattle.editlens_c.specs.Slots.{IsPut, IsEnded, is_taken};
 
 use crate::codes::{DONE, NOT_OPEN, SESSION_WORD};
-use embed_session::Kept;
+use embed_session::EmbeddedSession;
 
 /// A word, and a session behind it if the word is the word of magic. Any other word says that nothing is open, whatever
 /// is behind it.
@@ -11,7 +11,7 @@ use embed_session::Kept;
 #[derive(Drop)]
 pub(crate) struct Slot {
     pub(crate) word: u64,
-    pub(crate) kept: Option<Kept>,
+    pub(crate) embedded: Option<EmbeddedSession>,
 }
 
 impl Slot {
@@ -19,16 +19,16 @@ impl Slot {
     pub(crate) fn is_open(&self) -> bool
         ensures { result ≡ is_taken self.now }
     {
-        self.word == SESSION_WORD && self.kept.is_some()
+        self.word == SESSION_WORD && self.embedded.is_some()
     }
 
-    // Puts what is kept here. What was here is bytes without a meaning, so nothing of it is dropped.
-    pub(crate) fn put(&mut self, kept: Kept)
-        ensures { IsPut kept self.new }
+    // Puts what is held here. What was here is bytes without a meaning, so nothing of it is dropped.
+    pub(crate) fn put(&mut self, embedded: EmbeddedSession)
+        ensures { IsPut embedded self.new }
     {
         let slot = Slot {
             word: SESSION_WORD,
-            kept: Some(kept),
+            embedded: Some(embedded),
         };
         std::mem::forget(std::mem::replace(self, slot));
     }
@@ -41,7 +41,7 @@ impl Slot {
             return NOT_OPEN;
         }
         self.word = 0;
-        drop(self.kept.take());
+        drop(self.embedded.take());
         DONE
     }
 }

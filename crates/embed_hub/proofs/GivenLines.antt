@@ -16,11 +16,11 @@ use Rattle.hub_run.specs.HubScript.{hub_script}
 use Rattle.hub_run.specs.RunStates.{forms_of_lenses, hub_state_of}
 use Rattle.hub_run.specs.Runs.{HubState, hub_answered, hub_answer, first_state, hub_state_text}
 use Rattle.embed_hub.specs.Journals.{is_taken, IsGiven, IsReported}
-use Rattle.embed_hub.specs.Kept.{IsStarted, IsOpened, IfOpen, takes_line, takes_bytes, IsStepped, IsShown, text_of}
+use Rattle.embed_hub.specs.Embedded.{IsStarted, IsOpened, IfOpen, takes_line, takes_bytes, IsStepped, IsShown, text_of}
 use Rattle.embed_hub.specs.Parts.{IsShow}
 use Rattle.embed_hub.specs.Steps.{hub_state, forms_of, line_step, IsLineStep}
-use Rattle.embed_hub.specs.declared.kept.KeptHub.{KeptHub}
-use Rattle.embed_hub.specs.declared.kept.KeptHub.TheVariants as kept
+use Rattle.embed_hub.specs.declared.embedded.EmbeddedHub.{EmbeddedHub}
+use Rattle.embed_hub.specs.declared.embedded.EmbeddedHub.TheVariants as embedded
 use Rattle.embed_hub.specs.declared.outcome.HubOutcome.{HubOutcome}
 use Rattle.embed_hub.specs.declared.outcome.HubOutcome.TheVariants as outcome
 use Rattle.embed_hub.specs.declared.outcome.HubPart.TheVariants as part
@@ -71,15 +71,15 @@ one_line false r m line end lines rest t' is s c =
 
 -- ---- the lines
 
-pub open_is : (k : KeptHub) (P : RunningHub → Type 0) → IfOpen k P → (m : RunningHub) × (k ≡ kept.Open m) × P m
-open_is (kept.Open r) P h = (r, refl, h)
-open_is (kept.Refused why line) P h = absurd h
-open_is (kept.StateRefused why) P h = absurd h
-open_is kept.NoMemory P h = absurd h
+pub open_is : (k : EmbeddedHub) (P : RunningHub → Type 0) → IfOpen k P → (m : RunningHub) × (k ≡ embedded.Open m) × P m
+open_is (embedded.Open r) P h = (r, refl, h)
+open_is (embedded.Refused why line) P h = absurd h
+open_is (embedded.StateRefused why) P h = absurd h
+open_is embedded.NoMemory P h = absurd h
 
 -- the step of a line that was taken
-taken_line : (r : RunningHub) (line : List ℕ) (end : HubOutcome) (next : KeptHub) → is_taken end ≡ true → takes_line r line end next
-    → (m : RunningHub) × (next ≡ kept.Open m) × IsLineStep r line end m
+taken_line : (r : RunningHub) (line : List ℕ) (end : HubOutcome) (next : EmbeddedHub) → is_taken end ≡ true → takes_line r line end next
+    → (m : RunningHub) × (next ≡ embedded.Open m) × IsLineStep r line end m
 taken_line r line outcome.Done next taken s = open_is next (IsLineStep r line outcome.Done) s
 taken_line r line outcome.Blank next taken s = open_is next (IsLineStep r line outcome.Blank) s
 taken_line r line outcome.NoView next taken s = open_is next (IsLineStep r line outcome.NoView) s
@@ -90,26 +90,26 @@ taken_line r line outcome.Full next taken s = cc
 taken_line r line outcome.NoMemory next taken s = cc
 taken_line r line outcome.NoHub next taken s = cc
 
-taken_step : (b : Bool) (r : RunningHub) (line : List ℕ) (end : HubOutcome) (next : KeptHub) → is_taken end ≡ true → takes_bytes b r line end next
-    → (m : RunningHub) × (next ≡ kept.Open m) × IsLineStep r line end m
+taken_step : (b : Bool) (r : RunningHub) (line : List ℕ) (end : HubOutcome) (next : EmbeddedHub) → is_taken end ≡ true → takes_bytes b r line end next
+    → (m : RunningHub) × (next ≡ embedded.Open m) × IsLineStep r line end m
 taken_step true r line end next taken s = taken_line r line end next taken s
 taken_step false r line end next taken s = let no : is_taken outcome.LineFeed ≡ true = subst (λ e. is_taken e ≡ true) s.0 taken in cc
 
 -- the lines took the hub to this one
-record Given (r : RunningHub) (lines : List (List ℕ)) (texts : List ℕ) (after : KeptHub) : Type 0 where
+record Given (r : RunningHub) (lines : List (List ℕ)) (texts : List ℕ) (after : EmbeddedHub) : Type 0 where
   pub hub : RunningHub
-  pub is : after ≡ kept.Open hub
+  pub is : after ≡ embedded.Open hub
   pub runs : Runs (hub_state r) r.number (map line_of lines) texts (hub_state hub)
 
-given_lines : (r : RunningHub) (lines : List (List ℕ)) (texts : List ℕ) (after : KeptHub) → IsGiven (kept.Open r) lines texts after → Given r lines texts after
+given_lines : (r : RunningHub) (lines : List (List ℕ)) (texts : List ℕ) (after : EmbeddedHub) → IsGiven (embedded.Open r) lines texts after → Given r lines texts after
 given_lines r [] texts after g = record { hub = r; is = g.1; runs = record { steps = []; is_run = refl; is_texts = g.0; comes_to = refl } }
 given_lines r (line ∷ lines) texts after g =
     let t = taken_step (has_no_end line) r line g.end g.next g.taken g.stepped in
-    let c = given_lines t.0 lines g.rest after (subst (λ (k : KeptHub). IsGiven k lines g.rest after) t.1 g.others_given) in
+    let c = given_lines t.0 lines g.rest after (subst (λ (k : EmbeddedHub). IsGiven k lines g.rest after) t.1 g.others_given) in
     record {
       hub = c.hub;
       is = c.is;
-      runs = subst (λ (all : List ℕ). Runs (hub_state r) r.number (map line_of (line ∷ lines)) all (hub_state c.hub)) (sym (g.is_texts ∙ ap (λ (k : KeptHub). text_of k ++ g.rest) t.1))
+      runs = subst (λ (all : List ℕ). Runs (hub_state r) r.number (map line_of (line ∷ lines)) all (hub_state c.hub)) (sym (g.is_texts ∙ ap (λ (k : EmbeddedHub). text_of k ++ g.rest) t.1))
           (one_line (is_blank (line_of line)) r t.0 (line_of line) g.end (map line_of lines) g.rest (hub_state c.hub) refl t.2 c.runs);
     }
 
@@ -138,28 +138,28 @@ module _ (script : List ℕ) (lines : List (List ℕ)) (texts : List ℕ) (behin
             ∙ ap (λ x. Some (x, status_at_end (any_answer_refused c.steps))) text;
       }
 
-  opened : (r : RunningHub) (last shown : KeptHub) → IsStarted (program_part script) r → IsGiven (kept.Open r) lines texts last → IsShown last part.State outcome.Done shown
+  opened : (r : RunningHub) (last shown : EmbeddedHub) → IsStarted (program_part script) r → IsGiven (embedded.Open r) lines texts last → IsShown last part.State outcome.Done shown
       → IsReported script (texts ++ text_of shown)
   opened r last shown s given h =
       let g = given_lines r lines texts last given in
-      let m = open_is shown (IsShow g.hub part.State) (subst (λ (k : KeptHub). IsShown k part.State outcome.Done shown) g.is h) in
-      subst (λ (k : KeptHub). IsReported script (texts ++ text_of k)) (sym m.1) (reported r g.hub m.0 s g.runs m.2)
+      let m = open_is shown (IsShow g.hub part.State) (subst (λ (k : EmbeddedHub). IsShown k part.State outcome.Done shown) g.is h) in
+      subst (λ (k : EmbeddedHub). IsReported script (texts ++ text_of k)) (sym m.1) (reported r g.hub m.0 s g.runs m.2)
 
 -- where there is no hub, nothing is shown
-not_shown : (before after shown : KeptHub) (lines : List (List ℕ)) (texts : List ℕ) → ((end : HubOutcome) (line : List ℕ) (next : KeptHub) → IsStepped before line end next → end ≡ outcome.NoHub)
-    → ((next : KeptHub) → IsShown before part.State outcome.Done next → ⊥) → IsGiven before lines texts after → IsShown after part.State outcome.Done shown → ⊥
-not_shown before after shown [] texts no_step no_show g h = no_show shown (subst (λ (k : KeptHub). IsShown k part.State outcome.Done shown) g.1 h)
+not_shown : (before after shown : EmbeddedHub) (lines : List (List ℕ)) (texts : List ℕ) → ((end : HubOutcome) (line : List ℕ) (next : EmbeddedHub) → IsStepped before line end next → end ≡ outcome.NoHub)
+    → ((next : EmbeddedHub) → IsShown before part.State outcome.Done next → ⊥) → IsGiven before lines texts after → IsShown after part.State outcome.Done shown → ⊥
+not_shown before after shown [] texts no_step no_show g h = no_show shown (subst (λ (k : EmbeddedHub). IsShown k part.State outcome.Done shown) g.1 h)
 not_shown before after shown (line ∷ lines) texts no_step no_show g h =
     let no : is_taken outcome.NoHub ≡ true = subst (λ e. is_taken e ≡ true) (no_step g.end line g.next g.stepped) g.taken in cc
 
 differ : outcome.Done ≡ outcome.NoHub → ⊥
 differ e = cc
 
-pub is_reported : (script : List ℕ) (lines : List (List ℕ)) (texts : List ℕ) (first last shown : KeptHub) → map line_of lines ≡ journal script → IsOpened (program_part script) first
+pub is_reported : (script : List ℕ) (lines : List (List ℕ)) (texts : List ℕ) (first last shown : EmbeddedHub) → map line_of lines ≡ journal script → IsOpened (program_part script) first
     → IsGiven first lines texts last → IsShown last part.State outcome.Done shown → IsReported script (texts ++ text_of shown)
-is_reported script lines texts (kept.Open r) last shown behind s given h = opened script lines texts behind r last shown s given h
-is_reported script lines texts (kept.Refused why line) last shown behind s given h =
-    absurd (not_shown (kept.Refused why line) last shown lines texts (λ end line next s. s.0) (λ next s. differ s.0) given h)
-is_reported script lines texts (kept.StateRefused why) last shown behind s given h = absurd s
-is_reported script lines texts kept.NoMemory last shown behind s given h =
-    absurd (not_shown kept.NoMemory last shown lines texts (λ end line next s. s.0) (λ next s. differ s.0) given h)
+is_reported script lines texts (embedded.Open r) last shown behind s given h = opened script lines texts behind r last shown s given h
+is_reported script lines texts (embedded.Refused why line) last shown behind s given h =
+    absurd (not_shown (embedded.Refused why line) last shown lines texts (λ end line next s. s.0) (λ next s. differ s.0) given h)
+is_reported script lines texts (embedded.StateRefused why) last shown behind s given h = absurd s
+is_reported script lines texts embedded.NoMemory last shown behind s given h =
+    absurd (not_shown embedded.NoMemory last shown lines texts (λ end line next s. s.0) (λ next s. differ s.0) given h)

@@ -10,8 +10,8 @@ use Rattle.hub_run.specs.declared.pieces.Pieces.{Pieces}
 use Rattle.hub_run.proofs.PieceLines.{line_more}
 use Rattle.embed_hub.specs.Opening.{HoldsRest}
 
-pub nothing_read : (kept : Pieces) (part : List ℕ) → HoldsPieces kept [] [] → HoldsRest kept part part
-nothing_read kept part h = record { ended = []; begun = []; holds = h; goes = refl }
+pub nothing_read : (embedded : Pieces) (part : List ℕ) → HoldsPieces embedded [] [] → HoldsRest embedded part part
+nothing_read embedded part h = record { ended = []; begun = []; holds = h; goes = refl }
 
 -- what a line, with what ends it, makes of the pieces that are kept
 abbrev pub Adds : Pieces → Pieces → List ℕ → List ℕ → Type 0
@@ -41,8 +41,8 @@ line_added old new part text more plain adds h = by_test (is_cut text) refl (add
 
 -- ---- the end
 
-pub nothing_left : (kept : Pieces) (part : List ℕ) → HoldsRest kept part [] → HasPieces kept part
-nothing_left kept part h = record { ended = h.ended; begun = h.begun; holds = h.holds; are = h.goes }
+pub nothing_left : (embedded : Pieces) (part : List ℕ) → HoldsRest embedded part [] → HasPieces embedded part
+nothing_left embedded part h = record { ended = h.ended; begun = h.begun; holds = h.holds; are = h.goes }
 
 -- the last line, which no LF ends, behind a piece that has begun
 last_pieces : (begun : List ℕ) (byte : ℕ) (text : List ℕ) → has_no_end (byte ∷ text) ≡ true

@@ -5,22 +5,22 @@ use Rattle.hub_run.specs.FoundLenses.{IsRefusalOf, IsRefusedHub}
 use Rattle.hub_run.specs.Lenses.{HubRefusal, lenses_of, hub_refusal_line}
 use Rattle.hub_run.specs.declared.views.HubRefused.{HubRefused}
 use Rattle.hub_run.specs.declared.views.HubRefused.TheVariants.{TooManyViews, InView, ViewsDiffer, NoMemory}
-use Rattle.embed_hub.specs.Kept.{IsRefusedWith, IsRefusedPart, IsOpened, IsResumed}
-use Rattle.embed_hub.specs.declared.kept.KeptHub.{KeptHub}
-use Rattle.embed_hub.specs.declared.kept.KeptHub.TheVariants as kept
+use Rattle.embed_hub.specs.Embedded.{IsRefusedWith, IsRefusedPart, IsOpened, IsResumed}
+use Rattle.embed_hub.specs.declared.embedded.EmbeddedHub.{EmbeddedHub}
+use Rattle.embed_hub.specs.declared.embedded.EmbeddedHub.TheVariants as embedded
 
 -- a program part that is refused opens nothing
-pub refused_opened : (part : List ℕ) (k : KeptHub) → IsRefusedPart part k → IsOpened part k
-refused_opened part (kept.Open r) h = absurd h
-refused_opened part (kept.Refused why line) h = h
-refused_opened part (kept.StateRefused why) h = absurd h
-refused_opened part kept.NoMemory h = tt
+pub refused_opened : (part : List ℕ) (k : EmbeddedHub) → IsRefusedPart part k → IsOpened part k
+refused_opened part (embedded.Open r) h = absurd h
+refused_opened part (embedded.Refused why line) h = h
+refused_opened part (embedded.StateRefused why) h = absurd h
+refused_opened part embedded.NoMemory h = tt
 
-pub refused_resumed : (part : List ℕ) (texts : List (List ℕ)) (k : KeptHub) → IsRefusedPart part k → IsResumed part texts k
-refused_resumed part texts (kept.Open r) h = absurd h
-refused_resumed part texts (kept.Refused why line) h = h
-refused_resumed part texts (kept.StateRefused why) h = absurd h
-refused_resumed part texts kept.NoMemory h = tt
+pub refused_resumed : (part : List ℕ) (texts : List (List ℕ)) (k : EmbeddedHub) → IsRefusedPart part k → IsResumed part texts k
+refused_resumed part texts (embedded.Open r) h = absurd h
+refused_resumed part texts (embedded.Refused why line) h = h
+refused_resumed part texts (embedded.StateRefused why) h = absurd h
+refused_resumed part texts embedded.NoMemory h = tt
 
 pub refused_with : (part : List ℕ) (why : HubRefused) (line : List ℕ) → why ≢ NoMemory → ((refusal : HubRefusal) → IsRefusalOf why refusal → line ≡ hub_refusal_line refusal)
     → IsRefusedHub (lenses_of part) why → IsRefusedWith part why line

@@ -4,8 +4,8 @@ use Rattle.command_ends.specs.Statuses.{IsFinished}
 use Rattle.command_ends.specs.declared.status.Status.{Status}
 use Rattle.run_scripts.specs.Report.{report}
 use Rattle.hub_run.specs.HubScript.{hub_script}
-use Rattle.embed_hub.specs.Kept.{IsStepped, text_of}
-use Rattle.embed_hub.specs.declared.kept.KeptHub.{KeptHub}
+use Rattle.embed_hub.specs.Embedded.{IsStepped, text_of}
+use Rattle.embed_hub.specs.declared.embedded.EmbeddedHub.{EmbeddedHub}
 use Rattle.embed_hub.specs.declared.outcome.HubOutcome.{HubOutcome}
 use Rattle.embed_hub.specs.declared.outcome.HubOutcome.TheVariants as outcome
 
@@ -18,8 +18,8 @@ is_taken outcome.NoHub = false
 is_taken end = true
 
 -- one line was given and taken, with this text, and then the others
-pub record IsGivenFirst (before : KeptHub) (line texts : List ℕ) (others : KeptHub → List ℕ → Type 0) : Type 0 where
-  pub next : KeptHub
+pub record IsGivenFirst (before : EmbeddedHub) (line texts : List ℕ) (others : EmbeddedHub → List ℕ → Type 0) : Type 0 where
+  pub next : EmbeddedHub
   pub end : HubOutcome
   pub rest : List ℕ
   pub stepped : IsStepped before line end next
@@ -28,7 +28,7 @@ pub record IsGivenFirst (before : KeptHub) (line texts : List ℕ) (others : Kep
   pub others_given : others next rest
 
 -- these lines were given one after another, each was taken, and these are their texts, one after another
-abbrev pub IsGiven : KeptHub → List (List ℕ) → List ℕ → KeptHub → Type 0
+abbrev pub IsGiven : EmbeddedHub → List (List ℕ) → List ℕ → EmbeddedHub → Type 0
 IsGiven before [] texts after = (texts ≡ []) × (after ≡ before)
 IsGiven before (line ∷ lines) texts after = IsGivenFirst before line texts (λ next rest. IsGiven next lines rest after)
 

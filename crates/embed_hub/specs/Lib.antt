@@ -1,5 +1,5 @@
 pub mod Journals
-pub mod Kept
+pub mod Embedded
 pub mod Opening
 pub mod Parts
 pub mod Resuming

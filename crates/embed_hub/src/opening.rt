@@ -9,11 +9,11 @@ ghost use Rattle.hub_run.specs.FormLenses.{form_lens};
 ghost use Rattle.hub_run.specs.FoundLenses.{IsRefusedHub, HasRefusalLine};
 ghost use Rattle.hub_run.specs.HubHeads.{HasPieces};
 ghost use Rattle.hub_run.specs.Lenses.{lenses_of};
-ghost use Rattle.embed_hub.specs.Kept.{IsOpened, IsRefusedPart};
+ghost use Rattle.embed_hub.specs.Embedded.{IsOpened, IsRefusedPart};
 ghost use Rattle.embed_hub.specs.Opening.{HoldsRest};
 
+use crate::embedded::EmbeddedHub;
 use crate::form_hub::FormHub;
-use crate::kept::KeptHub;
 use crate::running::RunningHub;
 use edit_journal::Line;
 use hub_run::{HubRefused, Pieces, refusal_line};
@@ -21,11 +21,11 @@ use lens_types::Typed;
 use std::alloc::{AllocError, Global};
 
 // The hub over a program part, or why there is none.
-pub(crate) fn open(alloc: Global, part: &[u8]) -> KeptHub
+pub(crate) fn open(alloc: Global, part: &[u8]) -> EmbeddedHub
     ensures { IsOpened part.now result }
 {
     let Ok(pieces) = read_pieces(alloc, part) else {
-        return KeptHub::NoMemory;
+        return EmbeddedHub::NoMemory;
     };
     match pieces.lenses(alloc) {
         Ok(typed) => started(alloc, typed),
@@ -34,28 +34,28 @@ pub(crate) fn open(alloc: Global, part: &[u8]) -> KeptHub
 }
 
 // The hub of these lenses at its start, unless memory ran out.
-fn started(alloc: Global, typed: Vec<Typed>) -> KeptHub
+fn started(alloc: Global, typed: Vec<Typed>) -> EmbeddedHub
     requires one_left { HaveOneLeftType form_lens (map form_tree typed.items) }
     ensures { (part : List ℕ) → lenses_of part ≡ Ok (map form_tree typed.items) → IsOpened part result }
 {
     match FormHub::start(alloc, typed) {
-        Ok(hub) => KeptHub::Open(RunningHub {
+        Ok(hub) => EmbeddedHub::Open(RunningHub {
             hub,
             number: 0,
             text: Vec::new(alloc),
         }),
-        Err(_) => KeptHub::NoMemory,
+        Err(_) => EmbeddedHub::NoMemory,
     }
 }
 
-// What is kept of a program part that is refused.
-pub(crate) fn closed(alloc: Global, refused: HubRefused) -> KeptHub
+// What is held of a program part that is refused.
+pub(crate) fn closed(alloc: Global, refused: HubRefused) -> EmbeddedHub
     requires has_line { HasRefusalLine refused }
     ensures { (part : List ℕ) → IsRefusedHub (lenses_of part) refused → IsRefusedPart part result }
 {
     match refusal_line(alloc, &refused) {
-        Ok(line) => KeptHub::Refused(refused, line.into_vec()),
-        Err(_) => KeptHub::NoMemory,
+        Ok(line) => EmbeddedHub::Refused(refused, line.into_vec()),
+        Err(_) => EmbeddedHub::NoMemory,
     }
 }
 

@@ -7,7 +7,7 @@ use Rattle.edit_session.specs.Views.{triple_tree}
 use Rattle.run_answers.specs.ItemRuns.{IsInStepFor, triple_at_first}
 use Rattle.lens_forms.specs.Forms.{FormTree}
 use Rattle.texts.specs.declared.side.Side.{Side}
-use Rattle.embed_session.specs.Kept.{IsFresh, IsStarted, IsBrought, Brings, side_type, IsGoingOn}
+use Rattle.embed_session.specs.Embedded.{IsFresh, IsStarted, IsBrought, Brings, side_type, IsGoingOn}
 use Rattle.embed_session.specs.Records.{IsFirstRecord}
 use Rattle.embed_session.specs.States.{IsDocumentText, IsStateText}
 use Rattle.embed_session.specs.Steps.{form_of}

@@ -13,10 +13,10 @@ use Rattle.lens_core.specs.Translation.{translate}
 use Rattle.lens_flat.specs.declared.flat.ReadyForm.{ReadyForm}
 use Rattle.lens_forms.specs.Forms.{FormTree, form_tree, left_type, right_type}
 use Rattle.embed_session.specs.Journals.{is_taken, IsGiven, IsReported}
-use Rattle.embed_session.specs.Kept.{IsStarted, IsOpened, takes_bytes, IsStepped, shows_part, IsShown, text_of}
+use Rattle.embed_session.specs.Embedded.{IsStarted, IsOpened, takes_bytes, IsStepped, shows_part, IsShown, text_of}
 use Rattle.embed_session.specs.Steps.{form_of, has_line_feed, line_step, IsLineStep}
-use Rattle.embed_session.specs.declared.kept.Kept.{Kept}
-use Rattle.embed_session.specs.declared.kept.Kept.TheVariants as kept
+use Rattle.embed_session.specs.declared.embedded.EmbeddedSession.{EmbeddedSession}
+use Rattle.embed_session.specs.declared.embedded.EmbeddedSession.TheVariants as embedded
 use Rattle.embed_session.specs.declared.outcome.Outcome.{Outcome}
 use Rattle.embed_session.specs.declared.outcome.Outcome.TheVariants as outcome
 use Rattle.embed_session.specs.declared.outcome.Part.TheVariants as part
@@ -64,30 +64,30 @@ one_line f false r m r' line end items rest is s others =
 -- ---- the lines
 
 -- the step of a line that was taken
-taken_step : (b : Bool) (r : Running) (line : List ℕ) (end : Outcome) (next : Kept) → is_taken end ≡ true → takes_bytes b r line end next
-    → (m : Running) × (next ≡ kept.Open m) × IsLineStep r line end m
+taken_step : (b : Bool) (r : Running) (line : List ℕ) (end : Outcome) (next : EmbeddedSession) → is_taken end ≡ true → takes_bytes b r line end next
+    → (m : Running) × (next ≡ embedded.Open m) × IsLineStep r line end m
 taken_step true r line end next taken s = let no : is_taken outcome.LineFeed ≡ true = subst (λ e. is_taken e ≡ true) s.0 taken in cc
 taken_step false r line outcome.LineFeed next taken s = cc
 taken_step false r line outcome.Full next taken s = cc
 taken_step false r line outcome.NoChange next taken s = cc
 taken_step false r line outcome.NoMemory next taken s = cc
 taken_step false r line outcome.NoSession next taken s = cc
-taken_step false r line outcome.Done (kept.Open m) taken s = (m, refl, s)
+taken_step false r line outcome.Done (embedded.Open m) taken s = (m, refl, s)
 taken_step false r line outcome.Done _ taken s = absurd s
-taken_step false r line outcome.Blank (kept.Open m) taken s = (m, refl, s)
+taken_step false r line outcome.Blank (embedded.Open m) taken s = (m, refl, s)
 taken_step false r line outcome.Blank _ taken s = absurd s
-taken_step false r line (outcome.NoApply part at cause) (kept.Open m) taken s = (m, refl, s)
+taken_step false r line (outcome.NoApply part at cause) (embedded.Open m) taken s = (m, refl, s)
 taken_step false r line (outcome.NoApply part at cause) _ taken s = absurd s
-taken_step false r line (outcome.NotAChange fault) (kept.Open m) taken s = (m, refl, s)
+taken_step false r line (outcome.NotAChange fault) (embedded.Open m) taken s = (m, refl, s)
 taken_step false r line (outcome.NotAChange fault) _ taken s = absurd s
 
 -- lines that are given to a session are a run of its form, and leave a session
-record Given (f : FormTree) (r : Running) (lines : List (List ℕ)) (texts : List ℕ) (after : Kept) : Type 0 where
+record Given (f : FormTree) (r : Running) (lines : List (List ℕ)) (texts : List ℕ) (after : EmbeddedSession) : Type 0 where
   pub session : Running
-  pub is : after ≡ kept.Open session
+  pub is : after ≡ embedded.Open session
   pub runs : Runs f r (items_of (map line_of lines)) texts session
 
-given_from : (f : FormTree) (r m : Running) (line : List ℕ) (lines : List (List ℕ)) (end : Outcome) (rest texts : List ℕ) (after : Kept)
+given_from : (f : FormTree) (r m : Running) (line : List ℕ) (lines : List (List ℕ)) (end : Outcome) (rest texts : List ℕ) (after : EmbeddedSession)
     → form_of r ≡ f → IsLineStep r line end m → texts ≡ m.text.items ++ rest → (form_of m ≡ f → Given f m lines rest after) → form_of m ≡ f
     → Given f r (line ∷ lines) texts after
 given_from f r m line lines end rest texts after is s e others stays =
@@ -104,21 +104,21 @@ form_kept : (f : FormTree) (b : Bool) (r m : Running) (line : Line) (end : Outco
 form_kept f true r m line end is s = ap (λ (x : SessionOf ReadyForm). form_tree x.lens.typed) s.session ∙ is
 form_kept f false r m line end is s = ap (λ (x : ReadyForm). form_tree x.typed) s.lens ∙ is
 
-given_lines : (f : FormTree) (r : Running) (lines : List (List ℕ)) (texts : List ℕ) (after : Kept) → form_of r ≡ f → IsGiven (kept.Open r) lines texts after → Given f r lines texts after
+given_lines : (f : FormTree) (r : Running) (lines : List (List ℕ)) (texts : List ℕ) (after : EmbeddedSession) → form_of r ≡ f → IsGiven (embedded.Open r) lines texts after → Given f r lines texts after
 given_lines f r [] texts after is g =
     record { session = r; is = g.1; runs = record { steps = []; is_run = refl; is_texts = g.0; comes_to = refl; form_stays = is } }
 given_lines f r (line ∷ lines) texts after is g =
     let t = taken_step (has_line_feed line) r line g.end g.next g.taken g.stepped in
     let m = t.0 in
-    given_from f r m line lines g.end g.rest texts after is t.2 (subst (λ (k : Kept). texts ≡ text_of k ++ g.rest) t.1 g.is_texts)
-    (λ stays. given_lines f m lines g.rest after stays (subst (λ (k : Kept). IsGiven k lines g.rest after) t.1 g.others_given))
+    given_from f r m line lines g.end g.rest texts after is t.2 (subst (λ (k : EmbeddedSession). texts ≡ text_of k ++ g.rest) t.1 g.is_texts)
+    (λ stays. given_lines f m lines g.rest after stays (subst (λ (k : EmbeddedSession). IsGiven k lines g.rest after) t.1 g.others_given))
     (form_kept f (is_blank (line_of line)) r m (line_of line) g.end is t.2)
 
 -- ---- the report
 
-reported_shown : (program : List ℕ) (lines : List (List ℕ)) (texts : List ℕ) (r m : Running) (shown : Kept) → IsStarted program r
+reported_shown : (program : List ℕ) (lines : List (List ℕ)) (texts : List ℕ) (r m : Running) (shown : EmbeddedSession) → IsStarted program r
     → Runs (form_of r) r (items_of (map line_of lines)) texts m → shows_part m part.State outcome.Done shown → IsReported program lines (texts ++ text_of shown)
-reported_shown program lines texts r m (kept.Open x) s c h = record {
+reported_shown program lines texts r m (embedded.Open x) s c h = record {
   form = form_of r;
   lens = s.fresh.lens;
   steps = c.steps;
@@ -128,29 +128,29 @@ reported_shown program lines texts r m (kept.Open x) s c h = record {
 }
 reported_shown program lines texts r m _ s c h = absurd h
 
-reported_from : (program : List ℕ) (lines : List (List ℕ)) (texts : List ℕ) (r : Running) (after shown : Kept) → IsStarted program r
+reported_from : (program : List ℕ) (lines : List (List ℕ)) (texts : List ℕ) (r : Running) (after shown : EmbeddedSession) → IsStarted program r
     → Given (form_of r) r lines texts after → IsShown after part.State outcome.Done shown → IsReported program lines (texts ++ text_of shown)
 reported_from program lines texts r after shown s g h =
-    reported_shown program lines texts r g.session shown s g.runs (subst (λ (k : Kept). IsShown k part.State outcome.Done shown) g.is h)
+    reported_shown program lines texts r g.session shown s g.runs (subst (λ (k : EmbeddedSession). IsShown k part.State outcome.Done shown) g.is h)
 
 -- where there is no session, nothing is shown
-not_shown : (before after shown : Kept) (lines : List (List ℕ)) (texts : List ℕ) → ((end : Outcome) (line : List ℕ) (next : Kept) → IsStepped before line end next → end ≡ outcome.NoSession)
-    → ((next : Kept) → IsShown before part.State outcome.Done next → ⊥) → IsGiven before lines texts after → IsShown after part.State outcome.Done shown → ⊥
-not_shown before after shown [] texts no_step no_show g h = no_show shown (subst (λ (k : Kept). IsShown k part.State outcome.Done shown) g.1 h)
+not_shown : (before after shown : EmbeddedSession) (lines : List (List ℕ)) (texts : List ℕ) → ((end : Outcome) (line : List ℕ) (next : EmbeddedSession) → IsStepped before line end next → end ≡ outcome.NoSession)
+    → ((next : EmbeddedSession) → IsShown before part.State outcome.Done next → ⊥) → IsGiven before lines texts after → IsShown after part.State outcome.Done shown → ⊥
+not_shown before after shown [] texts no_step no_show g h = no_show shown (subst (λ (k : EmbeddedSession). IsShown k part.State outcome.Done shown) g.1 h)
 not_shown before after shown (line ∷ lines) texts no_step no_show g h =
     let no : is_taken outcome.NoSession ≡ true = subst (λ e. is_taken e ≡ true) (no_step g.end line g.next g.stepped) g.taken in cc
 
 differ : outcome.Done ≡ outcome.NoSession → ⊥
 differ e = cc
 
-pub is_reported : (program : List ℕ) (lines : List (List ℕ)) (texts : List ℕ) (first last shown : Kept) → IsOpened program first → IsGiven first lines texts last
+pub is_reported : (program : List ℕ) (lines : List (List ℕ)) (texts : List ℕ) (first last shown : EmbeddedSession) → IsOpened program first → IsGiven first lines texts last
     → IsShown last part.State outcome.Done shown → IsReported program lines (texts ++ text_of shown)
-is_reported program lines texts (kept.Open r) last shown opened given h = reported_from program lines texts r last shown opened (given_lines (form_of r) r lines texts last refl given) h
-is_reported program lines texts (kept.Refused refused line) last shown opened given h =
-    absurd (not_shown (kept.Refused refused line) last shown lines texts (λ end line next s. s.0) (λ next s. differ s.0) given h)
-is_reported program lines texts (kept.StateRefused fault) last shown opened given h =
-    absurd (not_shown (kept.StateRefused fault) last shown lines texts (λ end line next s. s.0) (λ next s. differ s.0) given h)
-is_reported program lines texts (kept.RecordsRefused fault) last shown opened given h =
-    absurd (not_shown (kept.RecordsRefused fault) last shown lines texts (λ end line next s. s.0) (λ next s. differ s.0) given h)
-is_reported program lines texts kept.NoMemory last shown opened given h =
-    absurd (not_shown kept.NoMemory last shown lines texts (λ end line next s. s.0) (λ next s. differ s.0) given h)
+is_reported program lines texts (embedded.Open r) last shown opened given h = reported_from program lines texts r last shown opened (given_lines (form_of r) r lines texts last refl given) h
+is_reported program lines texts (embedded.Refused refused line) last shown opened given h =
+    absurd (not_shown (embedded.Refused refused line) last shown lines texts (λ end line next s. s.0) (λ next s. differ s.0) given h)
+is_reported program lines texts (embedded.StateRefused fault) last shown opened given h =
+    absurd (not_shown (embedded.StateRefused fault) last shown lines texts (λ end line next s. s.0) (λ next s. differ s.0) given h)
+is_reported program lines texts (embedded.RecordsRefused fault) last shown opened given h =
+    absurd (not_shown (embedded.RecordsRefused fault) last shown lines texts (λ end line next s. s.0) (λ next s. differ s.0) given h)
+is_reported program lines texts embedded.NoMemory last shown opened given h =
+    absurd (not_shown embedded.NoMemory last shown lines texts (λ end line next s. s.0) (λ next s. differ s.0) given h)

@@ -15,7 +15,7 @@ use Rattle.lens_core.specs.Complements.{CompTree}
 use Rattle.lens_core.specs.Sides.{near}
 use Rattle.lens_core.specs.Translation.{Translated, translate}
 use Rattle.lens_forms.specs.Forms.{FormTree, left_type, right_type}
-use Rattle.embed_session.specs.Kept.{side_type, Brings}
+use Rattle.embed_session.specs.Embedded.{side_type, Brings}
 
 -- the first triple has the initial document on each side
 pub first_document : (form : FormTree) (s : Side) → document_on s (triple_at_first form) ≡ initial (side_type form s)

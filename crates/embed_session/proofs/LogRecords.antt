@@ -25,15 +25,15 @@ use Rattle.store_session.specs.Stands.{Standing, stands, step_of}
 use Rattle.store_session.specs.Standings.{standing}
 use Rattle.store_session.specs.Written.{the_change, the_snapshot, HasRecord}
 use Rattle.store_session.specs.WrittenStands.{one_stands, program_alone_stands}
-use Rattle.embed_session.specs.Changes.{IsKept, IsMade, IsChangeText, HasChangeText}
+use Rattle.embed_session.specs.Changes.{IsRemembered, IsMade, IsChangeText, HasChangeText}
 use Rattle.embed_session.specs.Journals.{IsSameState}
-use Rattle.embed_session.specs.Kept.{IsFresh, IsStarted, IsReopened}
+use Rattle.embed_session.specs.Embedded.{IsFresh, IsStarted, IsReopened}
 use Rattle.embed_session.specs.Logs.{IsLog}
 use Rattle.embed_session.specs.Records.{IsFirstRecord}
 use Rattle.embed_session.specs.States.{IsSnapshotText}
 use Rattle.embed_session.specs.Steps.{form_of, line_step, IsItemStep, IsLineStep}
-use Rattle.embed_session.specs.declared.kept.Kept.{Kept}
-use Rattle.embed_session.specs.declared.kept.Kept.TheVariants as kept
+use Rattle.embed_session.specs.declared.embedded.EmbeddedSession.{EmbeddedSession}
+use Rattle.embed_session.specs.declared.embedded.EmbeddedSession.TheVariants as embedded
 use Rattle.embed_session.specs.declared.outcome.Outcome.TheVariants as outcome
 use Rattle.embed_session.specs.declared.accepted.Accepted.{Accepted}
 use Rattle.embed_session.specs.declared.running.Running.{Running}
@@ -136,10 +136,10 @@ change_stands records text before after line g form s change is k =
     }
 
 kept_text : (records : List (List ℕ)) (text : List ℕ) (before after : Running) (line : Line) (last : Option Accepted) → IsLog records before → form_of after ≡ form_of before
-    → Stepped before line after → IsKept (triple_tree before.session.triple) line outcome.Done last → HasChangeText (form_of after) last text → IsLog (records ++ text ∷ []) after
-kept_text records text before after line (Some a) g form s kept k =
-    change_stands records text before after line g form s (change_tree a.change) kept.change_is k
-kept_text records text before after line None g form s kept k = absurd kept
+    → Stepped before line after → IsRemembered (triple_tree before.session.triple) line outcome.Done last → HasChangeText (form_of after) last text → IsLog (records ++ text ∷ []) after
+kept_text records text before after line (Some a) g form s remembered k =
+    change_stands records text before after line g form s (change_tree a.change) remembered.change_is k
+kept_text records text before after line None g form s remembered k = absurd remembered
 
 pub item_change : (records : List (List ℕ)) (text : List ℕ) (before after : Running) (line : Line) → IsLog records before → IsItemStep before line outcome.Done after
     → HasChangeText (form_of after) after.accepted text → IsLog (records ++ text ∷ []) after
@@ -156,15 +156,15 @@ pub line_change : (records : List (List ℕ)) (line text : List ℕ) (before aft
 line_change records line text before after g s k =
     item_change records text before after (line_of line) g (done_item (is_blank (line_of line)) before (line_of line) after s) k
 
--- ---- what is kept of the line
+-- ---- what is remembered of the line
 
 made_of : (before after : Running) (line : Line) (last : Option Accepted) (a : Accepted) → form_of after ≡ form_of before → IsInStepFor (form_of before) (triple_tree before.session.triple)
-    → Stepped before line after → IsKept (triple_tree before.session.triple) line outcome.Done last → last ≡ Some a → IsMade (form_of after) a
-made_of before after line (Some b) a form in_step s kept h =
+    → Stepped before line after → IsRemembered (triple_tree before.session.triple) line outcome.Done last → last ≡ Some a → IsMade (form_of after) a
+made_of before after line (Some b) a form in_step s remembered h =
     let same : b ≡ a = cc in
     let t = triple_tree before.session.triple in
-    let as_change : change_of_line line ≡ Ok (change_tree a.change) = subst (λ (x : Accepted). change_of_line line ≡ Ok (change_tree x.change)) same kept.change_is in
-    let as_before : triple_tree a.before.triple ≡ t = subst (λ (x : Accepted). triple_tree x.before.triple ≡ t) same kept.before_is in
+    let as_change : change_of_line line ≡ Ok (change_tree a.change) = subst (λ (x : Accepted). change_of_line line ≡ Ok (change_tree x.change)) same remembered.change_is in
+    let as_before : triple_tree a.before.triple ≡ t = subst (λ (x : Accepted). triple_tree x.before.triple ≡ t) same remembered.before_is in
     let step = subst (λ (l : FormTree). step_of l t s.change ≡ Some (Ok (triple_tree after.session.triple, s.words))) (sym form) s.step in
     let step_a = subst (λ c. step_of (form_of after) t c ≡ Some (Ok (triple_tree after.session.triple, s.words))) (same_change line s.change (change_tree a.change) s.is as_change) step in
     record {
@@ -173,7 +173,7 @@ made_of before after line (Some b) a form in_step s kept h =
       words = s.words;
       step = subst (λ x. step_of (form_of after) x (change_tree a.change) ≡ Some (Ok (triple_tree after.session.triple, s.words))) (sym as_before) step_a;
     }
-made_of before after line None a form in_step s kept h = cc
+made_of before after line None a form in_step s remembered h = cc
 
 pub accepted_made : (line : List ℕ) (before after : Running) (a : Accepted) → IsLineStep before line outcome.Done after → after.accepted ≡ Some a → IsMade (form_of after) a
 accepted_made line before after a s h =
@@ -193,17 +193,17 @@ no_fault records x (record_fault.BadRecord n) h k = absurd (not_both x (record_f
 no_fault records x (record_fault.NotConsistent n) h k = absurd (not_both x (record_fault.NotConsistent n) (stands records) h k)
 no_fault records x record_fault.NoMemory h k = refl
 
-pub log_reopened : (records : List (List ℕ)) (r : Running) (k : Kept) → IsLog records r → IsReopened records k → IsSameState (form_of r) (triple_tree r.session.triple) k
-log_reopened records r (kept.Open x) g h =
+pub log_reopened : (records : List (List ℕ)) (r : Running) (k : EmbeddedSession) → IsLog records r → IsReopened records k → IsSameState (form_of r) (triple_tree r.session.triple) k
+log_reopened records r (embedded.Open x) g h =
     let same = same_standing (standing (form_of r) (triple_tree r.session.triple) g.count 2) (standing (form_of x) (triple_tree x.session.triple) h.count h.version) (stands records) g.stand h.stand in
     (ap (λ (s : Standing). s.form) same, ap (λ (s : Standing). s.triple) same)
-log_reopened records r (kept.Refused refused line) g h = absurd h
-log_reopened records r (kept.StateRefused why) g h = absurd h
-log_reopened records r (kept.RecordsRefused why) g h =
+log_reopened records r (embedded.Refused refused line) g h = absurd h
+log_reopened records r (embedded.StateRefused why) g h = absurd h
+log_reopened records r (embedded.RecordsRefused why) g h =
     absurd (h.known (no_fault records (standing (form_of r) (triple_tree r.session.triple) g.count 2) why g.stand h.is_fault))
-log_reopened records r kept.NoMemory g h = tt
+log_reopened records r embedded.NoMemory g h = tt
 
-pub log_goes_on : (records : List (List ℕ)) (r x : Running) → IsLog records r → IsReopened records (kept.Open x) → IsLog records x
+pub log_goes_on : (records : List (List ℕ)) (r x : Running) → IsLog records r → IsReopened records (embedded.Open x) → IsLog records x
 log_goes_on records r x g h =
     let same = same_standing (standing (form_of r) (triple_tree r.session.triple) g.count 2) (standing (form_of x) (triple_tree x.session.triple) h.count h.version) (stands records) g.stand h.stand in
     record {

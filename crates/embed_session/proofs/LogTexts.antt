@@ -15,12 +15,12 @@ use Rattle.store_records.specs.RecordJson.{tree_of_program, tree_of_version, tre
 use Rattle.store_session.proofs.NoLineEnd.{text_plain}
 use Rattle.embed_session.specs.Changes.{HasChangeText}
 use Rattle.embed_session.specs.Cutting.{onto}
-use Rattle.embed_session.specs.Kept.{IsOpened, IsReopened, IfOpen, shows_part, IsShown, text_of}
+use Rattle.embed_session.specs.Embedded.{IsOpened, IsReopened, IfOpen, shows_part, IsShown, text_of}
 use Rattle.embed_session.specs.Logs.{log_text, IsRecorded, records_line, IsLogged, IsSameSession}
 use Rattle.embed_session.specs.Records.{IsFirstRecord, version_text}
 use Rattle.embed_session.specs.States.{IsShow, IsSnapshotText}
-use Rattle.embed_session.specs.declared.kept.Kept.{Kept}
-use Rattle.embed_session.specs.declared.kept.Kept.TheVariants as kept
+use Rattle.embed_session.specs.declared.embedded.EmbeddedSession.{EmbeddedSession}
+use Rattle.embed_session.specs.declared.embedded.EmbeddedSession.TheVariants as embedded
 use Rattle.embed_session.specs.declared.outcome.Outcome.{Outcome}
 use Rattle.embed_session.specs.declared.outcome.Outcome.TheVariants as outcome
 use Rattle.embed_session.specs.declared.outcome.Part.TheVariants as part
@@ -77,27 +77,27 @@ both_lists xs ys all e h k = ap (list_all has_no_end) e ∙ list_all-append has_
 one_plain : (text : List ℕ) (own : List (List ℕ)) → own ≡ text ∷ [] → has_no_end text ≡ true → list_all has_no_end own ≡ true
 one_plain text own e h = ap (list_all has_no_end) e ∙ rw h refl
 
-shown_plain : (r : Running) (next : Kept) → shows_part r part.Change outcome.Done next → has_no_end (text_of next) ≡ true
-shown_plain r (kept.Open m) h = change_plain _ r.accepted m.text.items h.text
-shown_plain r (kept.Refused why line) h = absurd h
-shown_plain r (kept.StateRefused why) h = absurd h
-shown_plain r (kept.RecordsRefused why) h = absurd h
-shown_plain r kept.NoMemory h = absurd h
+shown_plain : (r : Running) (next : EmbeddedSession) → shows_part r part.Change outcome.Done next → has_no_end (text_of next) ≡ true
+shown_plain r (embedded.Open m) h = change_plain _ r.accepted m.text.items h.text
+shown_plain r (embedded.Refused why line) h = absurd h
+shown_plain r (embedded.StateRefused why) h = absurd h
+shown_plain r (embedded.RecordsRefused why) h = absurd h
+shown_plain r embedded.NoMemory h = absurd h
 
-not_shown : (next k : Kept) → (outcome.Done ≡ outcome.NoSession) × (next ≡ k) → has_no_end (text_of next) ≡ true
+not_shown : (next k : EmbeddedSession) → (outcome.Done ≡ outcome.NoSession) × (next ≡ k) → has_no_end (text_of next) ≡ true
 not_shown next k h = let no = h.0 in cc
 
-change_shown : (stepped next : Kept) → IsShown stepped part.Change outcome.Done next → has_no_end (text_of next) ≡ true
-change_shown (kept.Open r) next h = shown_plain r next h
-change_shown (kept.Refused why line) next h = not_shown next (kept.Refused why line) h
-change_shown (kept.StateRefused why) next h = not_shown next (kept.StateRefused why) h
-change_shown (kept.RecordsRefused why) next h = not_shown next (kept.RecordsRefused why) h
-change_shown kept.NoMemory next h = not_shown next kept.NoMemory h
+change_shown : (stepped next : EmbeddedSession) → IsShown stepped part.Change outcome.Done next → has_no_end (text_of next) ≡ true
+change_shown (embedded.Open r) next h = shown_plain r next h
+change_shown (embedded.Refused why line) next h = not_shown next (embedded.Refused why line) h
+change_shown (embedded.StateRefused why) next h = not_shown next (embedded.StateRefused why) h
+change_shown (embedded.RecordsRefused why) next h = not_shown next (embedded.RecordsRefused why) h
+change_shown embedded.NoMemory next h = not_shown next embedded.NoMemory h
 
 none_plain : (own : List (List ℕ)) → own ≡ [] → list_all has_no_end own ≡ true
 none_plain own e = ap (list_all has_no_end) e
 
-own_plain : (end : Outcome) (stepped next : Kept) (own : List (List ℕ)) → records_line end stepped own next → list_all has_no_end own ≡ true
+own_plain : (end : Outcome) (stepped next : EmbeddedSession) (own : List (List ℕ)) → records_line end stepped own next → list_all has_no_end own ≡ true
 own_plain outcome.Done stepped next own h = one_plain (text_of next) own h.are (change_shown stepped next h.shown)
 own_plain outcome.Blank stepped next own h = none_plain own h.0
 own_plain (outcome.NoApply part at cause) stepped next own h = none_plain own h.0
@@ -108,7 +108,7 @@ own_plain outcome.NoChange stepped next own h = none_plain own h.0
 own_plain outcome.NoMemory stepped next own h = none_plain own h.0
 own_plain outcome.NoSession stepped next own h = none_plain own h.0
 
-pub logged_plain : (before after : Kept) (lines records : List (List ℕ)) → IsLogged before lines records after → list_all has_no_end records ≡ true
+pub logged_plain : (before after : EmbeddedSession) (lines records : List (List ℕ)) → IsLogged before lines records after → list_all has_no_end records ≡ true
 logged_plain before after [] records h = none_plain records h.0
 logged_plain before after (line ∷ lines) records h =
     both_lists h.own h.rest records h.are (own_plain h.end h.stepped h.next h.own h.recorded) (logged_plain h.next after lines h.rest h.others_logged)
@@ -119,9 +119,9 @@ both_true : (a b : Bool) → a ≡ true → b ≡ true → (a && b) ≡ true
 both_true true b h k = k
 both_true false b h k = cc
 
-pub log_reopened_text : (program : List ℕ) (lines records : List (List ℕ)) (first : Running) (last reopened : Kept) → IsOpened program (kept.Open first)
-    → IsLogged (kept.Open first) lines records last → IsReopened (texts_of (log_text (first.text.items ∷ records))) reopened → IsSameSession last reopened
+pub log_reopened_text : (program : List ℕ) (lines records : List (List ℕ)) (first : Running) (last reopened : EmbeddedSession) → IsOpened program (embedded.Open first)
+    → IsLogged (embedded.Open first) lines records last → IsReopened (texts_of (log_text (first.text.items ∷ records))) reopened → IsSameSession last reopened
 log_reopened_text program lines records first last reopened h given again =
     let plain = both_true (has_no_end first.text.items) (list_all has_no_end records) (first_plain program first.text.items h.fresh.text)
-    (logged_plain (kept.Open first) last lines records given) in
+    (logged_plain (embedded.Open first) last lines records given) in
     is_reopened program lines records first last reopened h given (subst (λ rs. IsReopened rs reopened) (log_cut (first.text.items ∷ records) plain) again)

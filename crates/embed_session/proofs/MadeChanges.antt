@@ -1,4 +1,4 @@
--- What is kept of a change, and why none was accepted last.
+-- What is remembered of a change, and why none was accepted last.
 use Rattle.std.proofs.Common.{◌≡◌, [], ◌∷◌, true, Option, Some, None, Ok, refl, sym, subst}
 use Rattle.std.specs.Prelude.{IfSome}
 use Rattle.edit_journal.specs.EntryJson.{change_counts_fit}
@@ -12,7 +12,7 @@ use Rattle.lens_forms.specs.Forms.{FormTree, left_type, right_type}
 use Rattle.edit_undo.specs.Undone.{BothTrees, undone}
 use Rattle.run_answers.specs.ItemRuns.{JournalAnswer}
 use Rattle.run_answers.proofs.AnswersHaveLines.{is_so}
-use Rattle.embed_session.specs.Changes.{KeepsChange, IsKept, IsMade}
+use Rattle.embed_session.specs.Changes.{KeepsChange, IsRemembered, IsMade}
 use Rattle.embed_session.specs.Steps.{outcome_of}
 use Rattle.embed_session.specs.declared.outcome.Outcome.{Outcome}
 use Rattle.embed_session.specs.declared.outcome.Outcome.TheVariants as outcome
@@ -20,14 +20,14 @@ use Rattle.embed_session.specs.declared.accepted.Accepted.{Accepted}
 use Rattle.embed_session.proofs.ItemSteps.{fit_of_line}
 use Rattle.embed_session.proofs.UndoneSteps.{change_undone}
 
--- ---- what is kept
+-- ---- what is remembered
 
 not_none : {X : Type 0} (x : X) → Some x ≡ None → ⊥
 not_none x h = cc
 
--- a change that was found is kept, and it is the one of the line
+-- a change that was found is remembered, and it is the one of the line
 pub change_kept : (line : Line) (end : Outcome) (change : Change) (a : Accepted) (t : TripleTree) → KeepsChange line end (Some change) → a.change ≡ change → triple_tree a.before.triple ≡ t
-    → IsKept t line end (Some a)
+    → IsRemembered t line end (Some a)
 change_kept line outcome.Done change a t h same was = record { change_is = rw same h; before_is = was }
 change_kept line outcome.Blank change a t h same was = absurd (not_none change h)
 change_kept line (outcome.NoApply part n cause) change a t h same was = absurd (not_none change h)
@@ -38,7 +38,7 @@ change_kept line outcome.NoChange change a t h same was = absurd (not_none chang
 change_kept line outcome.NoMemory change a t h same was = absurd (not_none change h)
 change_kept line outcome.NoSession change a t h same was = absurd (not_none change h)
 
-pub none_kept : (line : Line) (end : Outcome) (t : TripleTree) → KeepsChange line end None → IsKept t line end None
+pub none_kept : (line : Line) (end : Outcome) (t : TripleTree) → KeepsChange line end None → IsRemembered t line end None
 none_kept line outcome.Done t h = absurd h
 none_kept line outcome.Blank t h = refl
 none_kept line (outcome.NoApply part n cause) t h = refl

@@ -1,27 +1,27 @@
 -- A program that is refused is refused by every call that opens a session.
 use Rattle.std.proofs.Common.{ℕ, List}
 use Rattle.texts.specs.declared.side.Side.{Side}
-use Rattle.embed_session.specs.Kept.{IsRefusedProgram, IsOpened, IsImported, IsResumed}
-use Rattle.embed_session.specs.declared.kept.Kept.{Kept}
-use Rattle.embed_session.specs.declared.kept.Kept.TheVariants as kept
+use Rattle.embed_session.specs.Embedded.{IsRefusedProgram, IsOpened, IsImported, IsResumed}
+use Rattle.embed_session.specs.declared.embedded.EmbeddedSession.{EmbeddedSession}
+use Rattle.embed_session.specs.declared.embedded.EmbeddedSession.TheVariants as embedded
 
-pub refused_opened : (program : List ℕ) (k : Kept) → IsRefusedProgram program k → IsOpened program k
-refused_opened program (kept.Open r) h = absurd h
-refused_opened program (kept.Refused refused line) h = h
-refused_opened program (kept.StateRefused why) h = absurd h
-refused_opened program (kept.RecordsRefused why) h = absurd h
-refused_opened program kept.NoMemory h = tt
+pub refused_opened : (program : List ℕ) (k : EmbeddedSession) → IsRefusedProgram program k → IsOpened program k
+refused_opened program (embedded.Open r) h = absurd h
+refused_opened program (embedded.Refused refused line) h = h
+refused_opened program (embedded.StateRefused why) h = absurd h
+refused_opened program (embedded.RecordsRefused why) h = absurd h
+refused_opened program embedded.NoMemory h = tt
 
-pub refused_imported : (program : List ℕ) (s : Side) (text : List ℕ) (k : Kept) → IsRefusedProgram program k → IsImported program s text k
-refused_imported program s text (kept.Open r) h = absurd h
-refused_imported program s text (kept.Refused refused line) h = h
-refused_imported program s text (kept.StateRefused why) h = absurd h
-refused_imported program s text (kept.RecordsRefused why) h = absurd h
-refused_imported program s text kept.NoMemory h = tt
+pub refused_imported : (program : List ℕ) (s : Side) (text : List ℕ) (k : EmbeddedSession) → IsRefusedProgram program k → IsImported program s text k
+refused_imported program s text (embedded.Open r) h = absurd h
+refused_imported program s text (embedded.Refused refused line) h = h
+refused_imported program s text (embedded.StateRefused why) h = absurd h
+refused_imported program s text (embedded.RecordsRefused why) h = absurd h
+refused_imported program s text embedded.NoMemory h = tt
 
-pub refused_resumed : (program left comp right : List ℕ) (k : Kept) → IsRefusedProgram program k → IsResumed program left comp right k
-refused_resumed program left comp right (kept.Open r) h = absurd h
-refused_resumed program left comp right (kept.Refused refused line) h = h
-refused_resumed program left comp right (kept.StateRefused why) h = absurd h
-refused_resumed program left comp right (kept.RecordsRefused why) h = absurd h
-refused_resumed program left comp right kept.NoMemory h = tt
+pub refused_resumed : (program left comp right : List ℕ) (k : EmbeddedSession) → IsRefusedProgram program k → IsResumed program left comp right k
+refused_resumed program left comp right (embedded.Open r) h = absurd h
+refused_resumed program left comp right (embedded.Refused refused line) h = h
+refused_resumed program left comp right (embedded.StateRefused why) h = absurd h
+refused_resumed program left comp right (embedded.RecordsRefused why) h = absurd h
+refused_resumed program left comp right embedded.NoMemory h = tt

@@ -16,11 +16,11 @@ use Rattle.lens_forms.specs.Typing.{is_typed}
 use Rattle.value_json.proofs.TreesDiffer as documents
 use Rattle.value_json.specs.DocumentJson.{tree_of_document}
 use Rattle.embed_session.specs.Journals.{IsSameState}
-use Rattle.embed_session.specs.Kept.{IsResumed}
+use Rattle.embed_session.specs.Embedded.{IsResumed}
 use Rattle.embed_session.specs.States.{IsDocumentText, IsComplementText, IsStateText, IsStateFault, IsWrittenDocument, IsWrittenComplement}
 use Rattle.embed_session.specs.Steps.{form_of}
-use Rattle.embed_session.specs.declared.kept.Kept.{Kept}
-use Rattle.embed_session.specs.declared.kept.Kept.TheVariants as kept
+use Rattle.embed_session.specs.declared.embedded.EmbeddedSession.{EmbeddedSession}
+use Rattle.embed_session.specs.declared.embedded.EmbeddedSession.TheVariants as embedded
 use Rattle.embed_session.specs.declared.outcome.StateFault.{StateFault}
 use Rattle.embed_session.specs.declared.outcome.StateFault.TheVariants as fault
 
@@ -80,19 +80,19 @@ not_refused form left comp right t fault.NoMemory typed k s h = refl
 not_both : (form : FormTree) (refusal : Refusal) (o : Result FormTree Refusal) → o ≡ Ok form → o ≡ Err refusal → ⊥
 not_both form refusal o h k = cc
 
-pub is_same_state : (program left comp right : List ℕ) (form : FormTree) (t : TripleTree) (resumed : Kept) → lens_of program ≡ Ok form → IsInStepFor form t
+pub is_same_state : (program left comp right : List ℕ) (form : FormTree) (t : TripleTree) (resumed : EmbeddedSession) → lens_of program ≡ Ok form → IsInStepFor form t
     → IsWrittenDocument (left_type form) t.left left → IsWrittenComplement form t.comp comp → IsWrittenDocument (right_type form) t.right right
     → IsResumed program left comp right resumed → IsSameState form t resumed
-is_same_state program left comp right form t (kept.Open r) lens k x c y h =
+is_same_state program left comp right form t (embedded.Open r) lens k x c y h =
     let typed = accepted_typed program form lens in
     let same = same_ok form (form_of r) (lens_of program) lens h.fresh.lens in
     let shown = shown_state form left comp right t x c y in
     (same, one_state form left comp right (triple_tree r.session.triple) t typed (subst (λ (f : FormTree). IsStateText f left comp right (triple_tree r.session.triple)) same h.state) shown)
-is_same_state program left comp right form t (kept.Refused refused line) lens k x c y h = absurd (not_both form h.is_line.refusal (lens_of program) lens h.is_line.is)
-is_same_state program left comp right form t (kept.StateRefused why) lens k x c y h =
+is_same_state program left comp right form t (embedded.Refused refused line) lens k x c y h = absurd (not_both form h.is_line.refusal (lens_of program) lens h.is_line.is)
+is_same_state program left comp right form t (embedded.StateRefused why) lens k x c y h =
     let typed = accepted_typed program form lens in
     let same = same_ok form h.form (lens_of program) lens h.lens in
     let is_fault = subst (λ (f : FormTree). IsStateFault f left comp right why) same h.is_fault in
     absurd (h.known (not_refused form left comp right t why typed k (shown_state form left comp right t x c y) is_fault))
-is_same_state program left comp right form t (kept.RecordsRefused why) lens k x c y h = absurd h
-is_same_state program left comp right form t kept.NoMemory lens k x c y h = tt
+is_same_state program left comp right form t (embedded.RecordsRefused why) lens k x c y h = absurd h
+is_same_state program left comp right form t embedded.NoMemory lens k x c y h = tt

@@ -13,7 +13,7 @@ use Rattle.lens_core.specs.Translation.{translate}
 use Rattle.lens_forms.specs.Forms.{FormTree, left_type, right_type}
 use Rattle.store_session.specs.Stands.{step_of}
 use Rattle.edit_undo.specs.Undone.{BothTrees, BringsBack, undone}
-use Rattle.embed_session.specs.Changes.{IsKept, IsWayBack, IsUndoText, HasUndoText, IsWordBack}
+use Rattle.embed_session.specs.Changes.{IsRemembered, IsWayBack, IsUndoText, HasUndoText, IsWordBack}
 use Rattle.embed_session.specs.Steps.{form_of, IsLineStep}
 use Rattle.embed_session.specs.declared.outcome.Outcome.TheVariants as outcome
 use Rattle.embed_session.specs.declared.accepted.Accepted.{Accepted}
@@ -35,17 +35,17 @@ way_back form t u change words made h w =
     subst (λ x. BringsBack (left_type form) (right_type form) words x t) same w.back
 
 kept_back : (before after : Running) (line : Line) (s : Side) (text : List ℕ) (last : Option Accepted) → form_of after ≡ form_of before → Stepped before line after
-    → IsKept (triple_tree before.session.triple) line outcome.Done last → HasUndoText (form_of after) last s text
+    → IsRemembered (triple_tree before.session.triple) line outcome.Done last → HasUndoText (form_of after) last s text
     → (a : Accepted) × (k : IsUndoText (form_of after) a s text)
     × BringsBack (left_type (form_of after)) (right_type (form_of after)) k.words (triple_tree after.session.triple) (triple_tree before.session.triple)
-kept_back before after line s text (Some a) form m kept k =
+kept_back before after line s text (Some a) form m remembered k =
     let t = triple_tree before.session.triple in let u = triple_tree after.session.triple in let change = change_tree a.change in
-    let same = same_change line m.change change m.is kept.change_is in
+    let same = same_change line m.change change m.is remembered.change_is in
     let step = subst (λ (l : FormTree). step_of l t m.change ≡ Some (Ok (u, m.words))) (sym form) m.step in
     let step_k = subst (λ c. step_of (form_of after) t c ≡ Some (Ok (u, m.words))) same step in
-    let way = subst (λ x. IsWayBack (form_of after) x change k.words) kept.before_is k.way in
+    let way = subst (λ x. IsWayBack (form_of after) x change k.words) remembered.before_is k.way in
     (a, k, way_back (form_of after) t u change k.words m.words step_k way)
-kept_back before after line s text None form m kept k = absurd kept
+kept_back before after line s text None form m remembered k = absurd remembered
 
 line_back : (line : List ℕ) (before after : Running) (s : Side) (text : List ℕ) → IsLineStep before line outcome.Done after → HasUndoText (form_of after) after.accepted s text
     → (a : Accepted) × (k : IsUndoText (form_of after) a s text)

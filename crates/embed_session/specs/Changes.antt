@@ -1,5 +1,5 @@
--- The last change of a session: what is kept of it, and its texts. Read it from the end: `HasUndoText`,
--- `HasChangeText`, `IsNoneMade`, `IsMade`, then `IsKept`.
+-- The last change of a session: what is remembered of it, and its texts. Read it from the end: `HasUndoText`,
+-- `HasChangeText`, `IsNoneMade`, `IsMade`, then `IsRemembered`.
 use Rattle.std.specs.Prelude.{◌≡◌, ℕ, List, [], ◌∷◌, Option, None, Some, Result, Ok, IfOk, MatchOption}
 use Rattle.serde_json.specs.Written.{compact_text}
 use Rattle.texts.specs.declared.side.Side.{Side}
@@ -28,21 +28,21 @@ use Rattle.embed_session.specs.declared.outcome.Outcome.{Outcome}
 use Rattle.embed_session.specs.declared.outcome.Outcome.TheVariants as outcome
 use Rattle.embed_session.specs.declared.accepted.Accepted.{Accepted}
 
--- ---- what is kept
+-- ---- what is remembered
 
 -- the change of the line, and a session at this triple from before it
-pub record IsKeptAs (t : TripleTree) (line : Line) (a : Accepted) : Type 0 where
+pub record IsRememberedAs (t : TripleTree) (line : Line) (a : Accepted) : Type 0 where
   pub change_is : change_of_line line ≡ Ok (change_tree a.change)
   pub before_is : triple_tree a.before.triple ≡ t
 
 abbrev pub keeps_line : TripleTree → Line → Option Accepted → Type 0
-keeps_line t line (Some a) = IsKeptAs t line a
+keeps_line t line (Some a) = IsRememberedAs t line a
 keeps_line t line None = ⊥
 
--- the change of a line is kept, with this triple, if it was accepted; otherwise nothing is
-abbrev pub IsKept : TripleTree → Line → Outcome → Option Accepted → Type 0
-IsKept t line outcome.Done kept = keeps_line t line kept
-IsKept t line end kept = kept ≡ None
+-- the change of a line is remembered, with this triple, if it was accepted; otherwise nothing is
+abbrev pub IsRemembered : TripleTree → Line → Outcome → Option Accepted → Type 0
+IsRemembered t line outcome.Done remembered = keeps_line t line remembered
+IsRemembered t line end remembered = remembered ≡ None
 
 -- the change of a line that ends so, if it was accepted; otherwise none
 abbrev pub KeepsChange : Line → Outcome → Option Change → Type 0
@@ -52,7 +52,7 @@ KeepsChange line end found = found ≡ None
 
 -- ---- whether there is a change
 
--- the lens of the form accepts the change at the consistent triple that is kept with it
+-- the lens of the form accepts the change at the consistent triple that is remembered with it
 pub record IsMade (form : FormTree) (a : Accepted) : Type 0 where
   pub in_step : IsInStepFor form (triple_tree a.before.triple)
   pub after : TripleTree

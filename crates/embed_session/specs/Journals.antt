@@ -7,10 +7,10 @@ use Rattle.edit_session.specs.Views.{triple_tree}
 use Rattle.run_answers.specs.Answers.{text_from}
 use Rattle.run_answers.specs.ItemRuns.{JournalAnswer, items_of, run_of, triple_at_first}
 use Rattle.lens_forms.specs.Forms.{FormTree}
-use Rattle.embed_session.specs.Kept.{IsStepped, text_of}
+use Rattle.embed_session.specs.Embedded.{IsStepped, text_of}
 use Rattle.embed_session.specs.Steps.{form_of}
-use Rattle.embed_session.specs.declared.kept.Kept.{Kept}
-use Rattle.embed_session.specs.declared.kept.Kept.TheVariants as kept
+use Rattle.embed_session.specs.declared.embedded.EmbeddedSession.{EmbeddedSession}
+use Rattle.embed_session.specs.declared.embedded.EmbeddedSession.TheVariants as embedded
 use Rattle.embed_session.specs.declared.outcome.Outcome.{Outcome}
 use Rattle.embed_session.specs.declared.outcome.Outcome.TheVariants as outcome
 
@@ -24,9 +24,9 @@ is_taken outcome.NoSession = false
 is_taken end = true
 
 -- one line was given and taken, with this text, and then the others
-pub record IsGivenFirst (before : Kept) (line : List ℕ) (texts : List ℕ) (others : Kept → List ℕ
+pub record IsGivenFirst (before : EmbeddedSession) (line : List ℕ) (texts : List ℕ) (others : EmbeddedSession → List ℕ
     → Type 0) : Type 0 where
-  pub next : Kept
+  pub next : EmbeddedSession
   pub end : Outcome
   pub rest : List ℕ
   pub stepped : IsStepped before line end next
@@ -35,7 +35,7 @@ pub record IsGivenFirst (before : Kept) (line : List ℕ) (texts : List ℕ) (ot
   pub others_given : others next rest
 
 -- these lines were given one after another, each was taken, and these are their texts, one after another
-abbrev pub IsGiven : Kept → List (List ℕ) → List ℕ → Kept → Type 0
+abbrev pub IsGiven : EmbeddedSession → List (List ℕ) → List ℕ → EmbeddedSession → Type 0
 IsGiven before [] texts after = (texts ≡ []) × (after ≡ before)
 IsGiven before (line ∷ lines) texts after = IsGivenFirst before line texts (λ next rest. IsGiven next lines rest after)
 
@@ -49,7 +49,7 @@ pub record IsReported (program : List ℕ) (lines : List (List ℕ)) (text : Lis
   pub is_text : text ≡ text_from form (triple_at_first form) steps
 
 -- a session of this form at this triple; or memory ran out
-abbrev pub IsSameState : FormTree → TripleTree → Kept → Type 0
-IsSameState form t (kept.Open r) = (form_of r ≡ form) × (triple_tree r.session.triple ≡ t)
-IsSameState form t kept.NoMemory = Unit {0}
+abbrev pub IsSameState : FormTree → TripleTree → EmbeddedSession → Type 0
+IsSameState form t (embedded.Open r) = (form_of r ≡ form) × (triple_tree r.session.triple ≡ t)
+IsSameState form t embedded.NoMemory = Unit {0}
 IsSameState form t k = ⊥

@@ -1,7 +1,7 @@
 pub mod Changes
 pub mod Cutting
 pub mod Journals
-pub mod Kept
+pub mod Embedded
 pub mod Lenses
 pub mod Logs
 pub mod Records

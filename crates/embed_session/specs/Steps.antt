@@ -14,7 +14,7 @@ use Rattle.run_answers.specs.ItemRuns.{JournalAnswer, IsInStepFor}
 use Rattle.lens_core.specs.Translation.{translate}
 use Rattle.lens_flat.specs.declared.flat.ReadyForm.{ReadyForm}
 use Rattle.lens_forms.specs.Forms.{FormTree, form_tree, left_type, right_type}
-use Rattle.embed_session.specs.Changes.{IsKept}
+use Rattle.embed_session.specs.Changes.{IsRemembered}
 use Rattle.embed_session.specs.declared.outcome.Outcome.{Outcome}
 use Rattle.embed_session.specs.declared.outcome.Outcome.TheVariants as outcome
 use Rattle.embed_session.specs.declared.running.Running.{Running}
@@ -59,7 +59,7 @@ pub record Answers (before : SessionOf ReadyForm) (number : ℕ) (line : Line) (
   pub is_text : text ≡ answer_line number answer
   pub ended : end ≡ outcome_of answer
 
--- The line is an item with the next number, its answer line is the text, and it is kept if it was accepted. The triple
+-- The line is an item with the next number, its answer line is the text, and it is remembered if it was accepted. The triple
 -- after it is in step, as the one before it was.
 pub record IsItemStep (before : Running) (line : Line) (end : Outcome) (after : Running) : Type 0 where
   pub lens : after.session.lens ≡ before.session.lens
@@ -67,7 +67,7 @@ pub record IsItemStep (before : Running) (line : Line) (end : Outcome) (after : 
   pub in_step : IsInStepFor (form_of after) (triple_tree after.session.triple)
   pub number : after.number ≡ before.number + 1
   pub answers : Answers before.session after.number line after.text.items end after.session
-  pub accepted : IsKept (triple_tree before.session.triple) line end after.accepted
+  pub accepted : IsRemembered (triple_tree before.session.triple) line end after.accepted
 
 -- the line is blank, there is no text, and no line was accepted last
 pub record IsBlankStep (before : Running) (end : Outcome) (after : Running) : Type 0 where

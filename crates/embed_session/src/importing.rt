@@ -6,13 +6,13 @@ ghost use Rattle.doc_values.specs.Types.{ty_tree, is_well_formed};
 ghost use Rattle.doc_values.specs.Typing.{has};
 ghost use Rattle.edit_session.specs.Views.{triple_tree};
 ghost use Rattle.lens_forms.specs.Forms.{form_tree};
-ghost use Rattle.embed_session.specs.Kept.{IsImported, side_type, side_fault, Brings};
+ghost use Rattle.embed_session.specs.Embedded.{IsImported, side_type, side_fault, Brings};
 ghost use Rattle.embed_session.specs.Records.{IsFirstRecord};
 ghost use Rattle.embed_session.specs.States.{IsDocumentText};
 ghost use Rattle.embed_session.specs.Steps.{session_form};
 
 use crate::beginning::{Begun, begin};
-use crate::kept::Kept;
+use crate::embedded::EmbeddedSession;
 use crate::opening::{closed, first_session};
 use crate::outcome::StateFault;
 use crate::resuming::document_of_text;
@@ -27,7 +27,7 @@ use std::alloc::{AllocError, Global};
 use texts::Side;
 
 // The session over a program with this document of a side, or why there is none.
-pub(crate) fn import(alloc: Global, program: &[u8], side: Side, document: &[u8]) -> Kept
+pub(crate) fn import(alloc: Global, program: &[u8], side: Side, document: &[u8]) -> EmbeddedSession
     ensures { IsImported program.now side document.now result }
 {
     match begin(alloc, program) {
@@ -36,14 +36,14 @@ pub(crate) fn import(alloc: Global, program: &[u8], side: Side, document: &[u8])
     }
 }
 
-fn imported(alloc: Global, begun: Begun, side: Side, document: &[u8]) -> Kept
+fn imported(alloc: Global, begun: Begun, side: Side, document: &[u8]) -> EmbeddedSession
     ensures { (program : List ℕ) → lens_of program ≡ Ok (form_tree begun.typed)
         → IsFirstRecord program begun.text.items → IsImported program side document.now result }
 {
     match document_of_text(alloc, side_type(&begun.typed, side), document) {
         Ok(Some(doc)) => brought(alloc, begun, side, &doc),
-        Ok(None) => Kept::StateRefused(side_fault(side)),
-        Err(_) => Kept::NoMemory,
+        Ok(None) => EmbeddedSession::StateRefused(side_fault(side)),
+        Err(_) => EmbeddedSession::NoMemory,
     }
 }
 
@@ -69,7 +69,7 @@ fn side_fault(side: Side) -> StateFault
 }
 
 // The session with a document of a side.
-fn brought(alloc: Global, begun: Begun, side: Side, doc: &Doc) -> Kept
+fn brought(alloc: Global, begun: Begun, side: Side, doc: &Doc) -> EmbeddedSession
     requires typed { has (side_type (form_tree begun.typed) side) (doc_tree doc.now) ≡ true }
     ensures { (program document : List ℕ) → lens_of program ≡ Ok (form_tree begun.typed)
         → IsFirstRecord program begun.text.items
@@ -78,8 +78,8 @@ fn brought(alloc: Global, begun: Begun, side: Side, doc: &Doc) -> Kept
 {
     let Begun { typed, text } = begun;
     match session_with(alloc, &typed, side, doc) {
-        Ok(session) => Kept::Open(Running::new(session, text)),
-        Err(_) => Kept::NoMemory,
+        Ok(session) => EmbeddedSession::Open(Running::new(session, text)),
+        Err(_) => EmbeddedSession::NoMemory,
     }
 }
 

@@ -10,13 +10,13 @@ ghost use Rattle.run_answers.specs.ItemRuns.{IsInStepFor};
 ghost use Rattle.lens_forms.specs.Forms.{FormTree, left_type, right_type};
 ghost use Rattle.embed_session.specs.Changes.{IsMade, IsWordBack};
 ghost use Rattle.embed_session.specs.Journals.{IsGiven, IsReported, IsSameState};
-ghost use Rattle.embed_session.specs.Kept.{IsOpened, IsFresh, IsResumed, IsReopened, IsShown, text_of};
+ghost use Rattle.embed_session.specs.Embedded.{IsOpened, IsFresh, IsResumed, IsReopened, IsShown, text_of};
 ghost use Rattle.embed_session.specs.Logs.{IsLog, IsLogged, IsSameSession, log_text};
 ghost use Rattle.embed_session.specs.Records.{IsFirstRecord, version_text};
 ghost use Rattle.embed_session.specs.States.{IsPartText};
 ghost use Rattle.embed_session.specs.Steps.{form_of, IsLineStep};
-ghost use Rattle.embed_session.specs.declared.kept.Kept.{Kept as KeptValue};
-ghost use Rattle.embed_session.specs.declared.kept.Kept.TheVariants.{Open};
+ghost use Rattle.embed_session.specs.declared.embedded.EmbeddedSession.{EmbeddedSession as EmbeddedValue};
+ghost use Rattle.embed_session.specs.declared.embedded.EmbeddedSession.TheVariants.{Open};
 ghost use Rattle.embed_session.specs.declared.outcome.Outcome.TheVariants.{Done};
 ghost use Rattle.embed_session.specs.declared.outcome.Part.TheVariants.{State, Left, Complement, Right, Snapshot};
 ghost use Rattle.embed_session.specs.declared.outcome.Part.TheVariants.{Change, UndoLeft, UndoRight};
@@ -27,7 +27,7 @@ ghost use Rattle.embed_session.specs.declared.running.Running.{Running as Runnin
 /// another, are all that the run of the program writes for these lines.
 #[tactic(auto, using(crate::proofs::GivenLines::is_reported))]
 pub fn sessions_answer_as_a_run()
-    ensures { (program : List ℕ) (lines : List (List ℕ)) (texts : List ℕ) (first last shown : KeptValue)
+    ensures { (program : List ℕ) (lines : List (List ℕ)) (texts : List ℕ) (first last shown : EmbeddedValue)
         → IsOpened program first → IsGiven first lines texts last → IsShown last State Done shown
         → IsReported program lines (texts ++ text_of shown) }
 {}
@@ -37,7 +37,7 @@ pub fn sessions_answer_as_a_run()
 #[tactic(auto, using(crate::proofs::SameStates::is_same_state))]
 pub fn shown_states_are_resumed()
     ensures { (program left comp right : List ℕ) (form : FormTree) (triple : TripleTree)
-        (last : Option AcceptedValue) (resumed : KeptValue)
+        (last : Option AcceptedValue) (resumed : EmbeddedValue)
         → lens_of program ≡ Ok form → IsInStepFor form triple
         → IsPartText form triple last Left left → IsPartText form triple last Complement comp
         → IsPartText form triple last Right right
@@ -48,7 +48,7 @@ pub fn shown_states_are_resumed()
 /// it, and behind it the record of each change that was accepted, with an LF behind each. Lines may have been refused,
 /// and memory may have run out in between.
 pub fn logs_are_reopened()
-    ensures { (program : List ℕ) (lines records : List (List ℕ)) (first : RunningValue) (last reopened : KeptValue)
+    ensures { (program : List ℕ) (lines records : List (List ℕ)) (first : RunningValue) (last reopened : EmbeddedValue)
         → IsOpened program (Open first) → IsLogged (Open first) lines records last
         → IsReopened (texts_of (log_text (first.text.items ∷ records))) reopened
         → IsSameSession last reopened }
@@ -92,7 +92,7 @@ pub fn records_stand()
         (r : RunningValue)
         → IsLog records r → IsPartText (form_of r) (triple_tree r.session.triple) last Snapshot text
         → IsLog (records ++ text ∷ []) r }
-    ensures reopened { (records : List (List ℕ)) (r : RunningValue) (reopened : KeptValue) → IsLog records r
+    ensures reopened { (records : List (List ℕ)) (r : RunningValue) (reopened : EmbeddedValue) → IsLog records r
         → IsReopened records reopened → IsSameState (form_of r) (triple_tree r.session.triple) reopened }
     ensures goes_on { (records : List (List ℕ)) (r again : RunningValue) → IsLog records r
         → IsReopened records (Open again) → IsLog records again }
@@ -111,9 +111,9 @@ pub fn words_take_back()
         (triple_tree before.session.triple).right text }
 {}
 
-/// What is kept of a line that was accepted is its change, which the lens accepts. So its parts are shown, unless
+/// What is remembered of a line that was accepted is its change, which the lens accepts. So its parts are shown, unless
 /// memory runs out.
 pub fn accepted_is_made()
-    ensures { (line : List ℕ) (before after : RunningValue) (kept : AcceptedValue)
-        → IsLineStep before line Done after → after.accepted ≡ Some kept → IsMade (form_of after) kept }
+    ensures { (line : List ℕ) (before after : RunningValue) (remembered : AcceptedValue)
+        → IsLineStep before line Done after → after.accepted ≡ Some remembered → IsMade (form_of after) remembered }
 {}

@@ -5,11 +5,11 @@ ghost use Rattle.program_accepted.specs.Refused.{IsKnown, IsProgramRefusal};
 ghost use Rattle.edit_session.specs.Views.{triple_tree};
 ghost use Rattle.run_answers.specs.ItemRuns.{triple_at_first};
 ghost use Rattle.lens_forms.specs.Forms.{form_tree};
-ghost use Rattle.embed_session.specs.Kept.{IsOpened, IsRefusedProgram};
+ghost use Rattle.embed_session.specs.Embedded.{IsOpened, IsRefusedProgram};
 ghost use Rattle.embed_session.specs.Records.{IsFirstRecord};
 
 use crate::beginning::{Begun, begin};
-use crate::kept::Kept;
+use crate::embedded::EmbeddedSession;
 use crate::running::Running;
 use crate::shared::SharedLens;
 use answer_text::refused_part_line;
@@ -19,7 +19,7 @@ use program_accepted::Refused;
 use std::alloc::{AllocError, Global};
 
 // The session over a program, or why there is none.
-pub(crate) fn open(alloc: Global, program: &[u8]) -> Kept
+pub(crate) fn open(alloc: Global, program: &[u8]) -> EmbeddedSession
     ensures { IsOpened program.now result }
 {
     match begin(alloc, program) {
@@ -28,14 +28,14 @@ pub(crate) fn open(alloc: Global, program: &[u8]) -> Kept
     }
 }
 
-fn started(alloc: Global, begun: Begun) -> Kept
+fn started(alloc: Global, begun: Begun) -> EmbeddedSession
     ensures { (program : List ℕ) → lens_of program ≡ Ok (form_tree begun.typed)
         → IsFirstRecord program begun.text.items → IsOpened program result }
 {
     let Begun { typed, text } = begun;
     match first_session(alloc, &typed) {
-        Ok(session) => Kept::Open(Running::new(session, text)),
-        Err(_) => Kept::NoMemory,
+        Ok(session) => EmbeddedSession::Open(Running::new(session, text)),
+        Err(_) => EmbeddedSession::NoMemory,
     }
 }
 
@@ -48,13 +48,13 @@ pub(crate) fn first_session(alloc: Global, typed: &Typed) -> Result<Session<Shar
     Session::start(alloc, lens)
 }
 
-// What is kept of a program that is refused.
-pub(crate) fn closed(alloc: Global, refused: Refused) -> Kept
+// What is held of a program that is refused.
+pub(crate) fn closed(alloc: Global, refused: Refused) -> EmbeddedSession
     requires { IsKnown refused }
     ensures { (program : List ℕ) → IsProgramRefusal (lens_of program) refused → IsRefusedProgram program result }
 {
     match refused_part_line(alloc, &refused) {
-        Ok(line) => Kept::Refused(refused, line.into_vec()),
-        Err(_) => Kept::NoMemory,
+        Ok(line) => EmbeddedSession::Refused(refused, line.into_vec()),
+        Err(_) => EmbeddedSession::NoMemory,
     }
 }

@@ -8,10 +8,10 @@ ghost use Rattle.store_records.specs.StoredLens.{stored_lens};
 ghost use Rattle.store_session.specs.ReopenOutcomes.{IsReopenFault};
 ghost use Rattle.store_session.specs.Stands.{stands};
 ghost use Rattle.store_session.specs.Standings.{standing};
-ghost use Rattle.embed_session.specs.Kept.{IsReopened};
+ghost use Rattle.embed_session.specs.Embedded.{IsReopened};
 ghost use Rattle.embed_session.specs.Records.{version_text};
 
-use crate::kept::Kept;
+use crate::embedded::EmbeddedSession;
 use crate::records::cut;
 use crate::running::Running;
 use crate::shared::SharedLens;
@@ -24,27 +24,27 @@ use store_session::OpenedRecords;
 const FIRST_VERSION: u64 = 1;
 
 // The session for which the records of a text stand, or why there is none.
-pub(crate) fn reopen(alloc: Global, records: &[u8]) -> Kept
+pub(crate) fn reopen(alloc: Global, records: &[u8]) -> EmbeddedSession
     ensures { IsReopened (texts_of records.now) result }
 {
     match cut(alloc, records) {
         Ok(texts) => reopen_payloads(alloc, &Payloads::from_vec(texts)),
-        Err(_) => Kept::NoMemory,
+        Err(_) => EmbeddedSession::NoMemory,
     }
 }
 
-fn reopen_payloads(alloc: Global, payloads: &Payloads) -> Kept
+fn reopen_payloads(alloc: Global, payloads: &Payloads) -> EmbeddedSession
     ensures { IsReopened payloads.now result }
 {
     match open_records(alloc, payloads) {
         Ok(opened) => with_version(alloc, opened),
-        Err(RecordFault::NoMemory) => Kept::NoMemory,
-        Err(fault) => Kept::RecordsRefused(fault),
+        Err(RecordFault::NoMemory) => EmbeddedSession::NoMemory,
+        Err(fault) => EmbeddedSession::RecordsRefused(fault),
     }
 }
 
 // What was opened, with the version record of a log of version 1.
-fn with_version(alloc: Global, opened: OpenedRecords<SharedLens>) -> Kept
+fn with_version(alloc: Global, opened: OpenedRecords<SharedLens>) -> EmbeddedSession
     ensures { (records : List (List ℕ))
         → stands records ≡ Ok (standing (form_tree opened.session.lens.typed) (triple_tree opened.session.triple)
         opened.count opened.version)
@@ -52,8 +52,8 @@ fn with_version(alloc: Global, opened: OpenedRecords<SharedLens>) -> Kept
         → IsReopened records result }
 {
     match version_text(alloc, opened.version) {
-        Ok(text) => Kept::Open(Running::new(opened.session, text)),
-        Err(_) => Kept::NoMemory,
+        Ok(text) => EmbeddedSession::Open(Running::new(opened.session, text)),
+        Err(_) => EmbeddedSession::NoMemory,
     }
 }
 

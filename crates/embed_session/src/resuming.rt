@@ -8,13 +8,13 @@ ghost use Rattle.edit_session.specs.Views.{triple_tree};
 ghost use Rattle.run_answers.specs.ItemRuns.{IsInStepFor};
 ghost use Rattle.lens_core.specs.Complements.{CompTree, comp_tree};
 ghost use Rattle.lens_forms.specs.Forms.{form_tree};
-ghost use Rattle.embed_session.specs.Kept.{IsResumed};
+ghost use Rattle.embed_session.specs.Embedded.{IsResumed};
 ghost use Rattle.embed_session.specs.Records.{IsFirstRecord};
 ghost use Rattle.embed_session.specs.States.{IsDocumentTree, IsDocumentText, IsComplementTree, IsComplementText};
 ghost use Rattle.embed_session.specs.States.{IsNotOfType, IsNotOfForm, IsStateText, IsStateFault};
 
 use crate::beginning::{Begun, begin};
-use crate::kept::Kept;
+use crate::embedded::EmbeddedSession;
 use crate::opening::closed;
 use crate::outcome::StateFault;
 use crate::running::Running;
@@ -33,7 +33,13 @@ use store_records::read_tree;
 use value_json::{DocFault, read_doc};
 
 // The session over a program that goes on from the state of these texts, or why there is none.
-pub(crate) fn resume(alloc: Global, program: &[u8], left: &[u8], comp: &[u8], right: &[u8]) -> Kept
+pub(crate) fn resume(
+    alloc: Global,
+    program: &[u8],
+    left: &[u8],
+    comp: &[u8],
+    right: &[u8],
+) -> EmbeddedSession
     ensures { IsResumed program.now left.now comp.now right.now result }
 {
     match begin(alloc, program) {
@@ -42,20 +48,20 @@ pub(crate) fn resume(alloc: Global, program: &[u8], left: &[u8], comp: &[u8], ri
     }
 }
 
-fn resumed(alloc: Global, begun: Begun, left: &[u8], comp: &[u8], right: &[u8]) -> Kept
+fn resumed(alloc: Global, begun: Begun, left: &[u8], comp: &[u8], right: &[u8]) -> EmbeddedSession
     ensures { (program : List ℕ) → lens_of program ≡ Ok (form_tree begun.typed)
         → IsFirstRecord program begun.text.items
         → IsResumed program left.now comp.now right.now result }
 {
     match read_state(alloc, &begun.typed, left, comp, right) {
         Ok(triple) => going_on(alloc, begun, triple),
-        Err(StateFault::NoMemory) => Kept::NoMemory,
-        Err(fault) => Kept::StateRefused(fault),
+        Err(StateFault::NoMemory) => EmbeddedSession::NoMemory,
+        Err(fault) => EmbeddedSession::StateRefused(fault),
     }
 }
 
 // The session of a triple that is consistent.
-fn going_on(alloc: Global, begun: Begun, triple: Triple) -> Kept
+fn going_on(alloc: Global, begun: Begun, triple: Triple) -> EmbeddedSession
     requires in_step { IsInStepFor (form_tree begun.typed) (triple_tree triple) }
     ensures { (program left comp right : List ℕ) → lens_of program ≡ Ok (form_tree begun.typed)
         → IsFirstRecord program begun.text.items
@@ -64,8 +70,8 @@ fn going_on(alloc: Global, begun: Begun, triple: Triple) -> Kept
 {
     let Begun { typed, text } = begun;
     match session_at(alloc, &typed, triple) {
-        Ok(session) => Kept::Open(Running::new(session, text)),
-        Err(_) => Kept::NoMemory,
+        Ok(session) => EmbeddedSession::Open(Running::new(session, text)),
+        Err(_) => EmbeddedSession::NoMemory,
     }
 }
 

@@ -11,7 +11,7 @@ ghost use Rattle.lens_forms.specs.Forms.{left_type, right_type};
 ghost use Rattle.run_answers.specs.AnswerLines.{HasAnswerLine};
 ghost use Rattle.run_answers.specs.ItemRuns.{IsInStepFor};
 ghost use Rattle.run_answers.specs.ItemViews.{answer_tree, step_with, IsOfItem};
-ghost use Rattle.embed_session.specs.Changes.{IsKept, KeepsChange};
+ghost use Rattle.embed_session.specs.Changes.{IsRemembered, KeepsChange};
 ghost use Rattle.embed_session.specs.Steps.{session_form, Answers, IsLineStep, IsAsBefore, outcome_of};
 ghost use Rattle.embed_session.specs.States.{ShowsText};
 ghost use Rattle.embed_session.specs.declared.outcome.Outcome.{Outcome as OutcomeValue};
@@ -50,7 +50,7 @@ impl Running {
             Ok((text, outcome, change)) => {
                 self.text = text;
                 self.number += 1;
-                self.accepted = kept(change, before);
+                self.accepted = remembered(change, before);
                 Ok(outcome)
             }
             Err(fault) => {
@@ -147,11 +147,11 @@ fn change_of(answer: PairAnswer) -> Option<Change>
     }
 }
 
-// What is kept of a step from a session on: the change and that session, if the change was accepted.
-fn kept(change: Option<Change>, before: Session<SharedLens>) -> Option<Accepted>
+// What is remembered of a step from a session on: the change and that session, if the change was accepted.
+fn remembered(change: Option<Change>, before: Session<SharedLens>) -> Option<Accepted>
     requires counts_fit { ForSome change (λ change. change_counts_fit (change_tree change) ≡ true) }
-    ensures kept { (line : LineValue) (end : OutcomeValue) → KeepsChange line end change
-        → IsKept (triple_tree before.triple) line end result }
+    ensures remembered { (line : LineValue) (end : OutcomeValue) → KeepsChange line end change
+        → IsRemembered (triple_tree before.triple) line end result }
     ensures lens { ForSome result (λ last. last.before.lens ≡ before.lens) }
 {
     match change {

@@ -8,9 +8,9 @@ use Rattle.edit_journal.specs.Lines.{line_of}
 use Rattle.edit_journal.specs.declared.line.Line.{Line}
 use Rattle.edit_session.specs.Run as items
 use Rattle.embed_session.specs.Journals.{IsGiven, IsReported}
-use Rattle.embed_session.specs.Kept.{IsOpened, IsShown, text_of}
-use Rattle.embed_session.specs.declared.kept.Kept.{Kept}
-use Rattle.embed_session.specs.declared.kept.Kept.TheVariants as kept
+use Rattle.embed_session.specs.Embedded.{IsOpened, IsShown, text_of}
+use Rattle.embed_session.specs.declared.embedded.EmbeddedSession.{EmbeddedSession}
+use Rattle.embed_session.specs.declared.embedded.EmbeddedSession.TheVariants as embedded
 use Rattle.embed_session.specs.declared.outcome.Outcome.TheVariants.{Done}
 use Rattle.embed_session.specs.declared.outcome.Part.TheVariants.{State}
 use Rattle.embed_session.proofs.GivenLines.{is_reported}
@@ -120,18 +120,18 @@ reported script text lines behind r = record {
   });
 }
 
-pub session_reports : (script : List ℕ) (lines : List (List ℕ)) (texts : List ℕ) (first last shown : Kept) → map line_of lines ≡ journal script → IsOpened (program_part script) first
+pub session_reports : (script : List ℕ) (lines : List (List ℕ)) (texts : List ℕ) (first last shown : EmbeddedSession) → map line_of lines ≡ journal script → IsOpened (program_part script) first
     → IsGiven first lines texts last → IsShown last State Done shown → IsReportText pair_script script (texts ++ text_of shown)
 session_reports script lines texts first last shown behind opened given h =
     reported script (texts ++ text_of shown) lines behind (is_reported (program_part script) lines texts first last shown opened given h)
 
-pub session_refuses : (script : List ℕ) (first : Kept) → IsSessionRefused (program_part script) first → report pair_script script ≡ Some (text_of first, ProgramRefused)
-session_refuses script (kept.Refused refused line) r =
+pub session_refuses : (script : List ℕ) (first : EmbeddedSession) → IsSessionRefused (program_part script) first → report pair_script script ≡ Some (text_of first, ProgramRefused)
+session_refuses script (embedded.Refused refused line) r =
     refusal_is_report script line.items ProgramRefused (record { refusal = r.is_line.refusal; refused = r.is_line.is; is_text = r.is_line.is_line; is_status = refl })
-session_refuses script (kept.Open session) r = absurd r
-session_refuses script (kept.StateRefused why) r = absurd r
-session_refuses script (kept.RecordsRefused why) r = absurd r
-session_refuses script kept.NoMemory r = absurd r
+session_refuses script (embedded.Open session) r = absurd r
+session_refuses script (embedded.StateRefused why) r = absurd r
+session_refuses script (embedded.RecordsRefused why) r = absurd r
+session_refuses script embedded.NoMemory r = absurd r
 
 -- ---- one text
 

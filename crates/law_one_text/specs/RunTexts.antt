@@ -8,9 +8,9 @@ use Rattle.command_ends.specs.declared.status.Status.{Status}
 use Rattle.command_ends.specs.declared.status.Status.TheVariants.{ProgramRefused}
 use Rattle.edit_session.specs.Run.{any_refused}
 use Rattle.edit_session.specs.Step.{TripleTree}
-use Rattle.embed_session.specs.Kept.{IsRefusedWith}
-use Rattle.embed_session.specs.declared.kept.Kept.{Kept}
-use Rattle.embed_session.specs.declared.kept.Kept.TheVariants as kept
+use Rattle.embed_session.specs.Embedded.{IsRefusedWith}
+use Rattle.embed_session.specs.declared.embedded.EmbeddedSession.{EmbeddedSession}
+use Rattle.embed_session.specs.declared.embedded.EmbeddedSession.TheVariants as embedded
 use Rattle.lens_forms.specs.Forms.{FormTree}
 use Rattle.run_answers.specs.Answers.{text_from}
 use Rattle.run_answers.specs.ItemRuns.{JournalAnswer, triple_at_first, items_of, run_of}
@@ -34,9 +34,9 @@ pub record IsRefusalText (script text : List ℕ) (status : Status) : Type 0 whe
   pub is_status : status ≡ ProgramRefused
 
 -- the library has no session for this program, since the program is refused
-abbrev pub IsSessionRefused : List ℕ → Kept → Type 0
-IsSessionRefused program (kept.Refused refused line) = IsRefusedWith program refused line.items
-IsSessionRefused program (kept.Open session) = ⊥
-IsSessionRefused program (kept.StateRefused why) = ⊥
-IsSessionRefused program (kept.RecordsRefused why) = ⊥
-IsSessionRefused program kept.NoMemory = ⊥
+abbrev pub IsSessionRefused : List ℕ → EmbeddedSession → Type 0
+IsSessionRefused program (embedded.Refused refused line) = IsRefusedWith program refused line.items
+IsSessionRefused program (embedded.Open session) = ⊥
+IsSessionRefused program (embedded.StateRefused why) = ⊥
+IsSessionRefused program (embedded.RecordsRefused why) = ⊥
+IsSessionRefused program embedded.NoMemory = ⊥

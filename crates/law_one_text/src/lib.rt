@@ -11,13 +11,13 @@ ghost use Rattle.command_ends.specs.declared.status.Status.TheVariants.{ProgramR
 ghost use Rattle.edit_journal.specs.Lines.{line_of};
 ghost use Rattle.hub_run.specs.HubScript.{hub_script};
 ghost use Rattle.embed_hub.specs.Journals.{IsGiven as HubIsGiven};
-ghost use Rattle.embed_hub.specs.Kept.{IsOpened as HubIsOpened, IsShown as HubIsShown, text_of as hub_text_of};
-ghost use Rattle.embed_hub.specs.declared.kept.KeptHub.{KeptHub as HubValue};
+ghost use Rattle.embed_hub.specs.Embedded.{IsOpened as HubIsOpened, IsShown as HubIsShown, text_of as hub_text_of};
+ghost use Rattle.embed_hub.specs.declared.embedded.EmbeddedHub.{EmbeddedHub as HubValue};
 ghost use Rattle.embed_hub.specs.declared.outcome.HubOutcome.TheVariants.{Done as HubDone};
 ghost use Rattle.embed_hub.specs.declared.outcome.HubPart.TheVariants.{State as HubWhole};
 ghost use Rattle.embed_session.specs.Journals.{IsGiven};
-ghost use Rattle.embed_session.specs.Kept.{IsOpened, IsShown, text_of};
-ghost use Rattle.embed_session.specs.declared.kept.Kept.{Kept as KeptValue};
+ghost use Rattle.embed_session.specs.Embedded.{IsOpened, IsShown, text_of};
+ghost use Rattle.embed_session.specs.declared.embedded.EmbeddedSession.{EmbeddedSession as EmbeddedValue};
 ghost use Rattle.embed_session.specs.declared.outcome.Outcome.TheVariants.{Done};
 ghost use Rattle.embed_session.specs.declared.outcome.Part.TheVariants.{State};
 ghost use Rattle.run_pair.specs.Scripts.{pair_script};
@@ -49,18 +49,18 @@ pub fn a_report_is_a_run()
 ///   answers by texts that are, one after another, the report of the script.
 /// - `refused`: if the program part is refused instead, the text is the report too.
 pub fn a_session_writes_the_report()
-    ensures given { (script : List ℕ) (lines : List (List ℕ)) (texts : List ℕ) (first last shown : KeptValue)
+    ensures given { (script : List ℕ) (lines : List (List ℕ)) (texts : List ℕ) (first last shown : EmbeddedValue)
         → map line_of lines ≡ journal script
         → IsOpened (program_part script) first → IsGiven first lines texts last → IsShown last State Done shown
         → IsReportText pair_script script (texts ++ text_of shown) }
-    ensures refused { (script : List ℕ) (first : KeptValue) → IsSessionRefused (program_part script) first
+    ensures refused { (script : List ℕ) (first : EmbeddedValue) → IsSessionRefused (program_part script) first
         → report pair_script script ≡ Some (text_of first, ProgramRefused) }
 {}
 
 /// A call of `run` that came to its end wrote the texts of the session that was given the same lines.
 pub fn a_run_writes_the_texts_of_a_session<S: Source, K: Sink>()
     ensures { (old new : S × K) (status : Status) (call : Reports pair_script S.Source K.Sink old new status)
-        (lines : List (List ℕ)) (texts : List ℕ) (first last shown : KeptValue)
+        (lines : List (List ℕ)) (texts : List ℕ) (first last shown : EmbeddedValue)
         → map line_of lines ≡ journal call.bytes
         → IsOpened (program_part call.bytes) first → IsGiven first lines texts last → IsShown last State Done shown
         → call.text ≡ texts ++ text_of shown }

@@ -1,6 +1,6 @@
 use Rattle.std.proofs.Common.{◌++◌}
 use Rattle.hub_run.specs.HubScript.{hub_script}
-use Rattle.embed_hub.specs.Kept.{text_of}
+use Rattle.embed_hub.specs.Embedded.{text_of}
 use Rattle.run_scripts.specs.Report.{report}
 use Rattle.law_one_text.proofs.HubReports.{hub_reports}
 use Rattle.law_one_text.proofs.PairReports.{same_text}

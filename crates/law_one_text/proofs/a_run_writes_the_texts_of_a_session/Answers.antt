@@ -1,5 +1,5 @@
 use Rattle.std.proofs.Common.{◌++◌}
-use Rattle.embed_session.specs.Kept.{text_of}
+use Rattle.embed_session.specs.Embedded.{text_of}
 use Rattle.run_pair.specs.Scripts.{pair_script}
 use Rattle.run_scripts.specs.Report.{report}
 use Rattle.law_one_text.proofs.PairReports.{session_reports, same_text}

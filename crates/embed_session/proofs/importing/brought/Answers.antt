@@ -4,7 +4,7 @@ use Rattle.edit_session.specs.Sessions.{SessionOf}
 use Rattle.edit_session.specs.Views.{triple_tree}
 use Rattle.lens_flat.specs.declared.flat.ReadyForm.{ReadyForm}
 use Rattle.lens_forms.specs.Forms.{form_tree}
-use Rattle.embed_session.specs.Kept.{Brings}
+use Rattle.embed_session.specs.Embedded.{Brings}
 use Rattle.embed_session.specs.Records.{IsFirstRecord}
 use Rattle.embed_session.specs.Steps.{session_form}
 use Rattle.embed_session.proofs.FreshSessions.{brought_in}

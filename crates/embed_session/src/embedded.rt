@@ -2,7 +2,7 @@
 ghost use Rattle.std.specs.Prelude.{◌≡◌};
 ghost use Rattle.std.specs.List.{list_any};
 ghost use Rattle.edit_journal.specs.Pieces.{texts_of};
-ghost use Rattle.embed_session.specs.Kept.{IsOpened, IsImported, IsResumed, IsReopened, IsStepped, IsShown, text_of};
+ghost use Rattle.embed_session.specs.Embedded.{IsOpened, IsImported, IsResumed, IsReopened, IsStepped, IsShown, text_of};
 ghost use Rattle.embed_session.specs.Steps.{has_line_feed};
 
 use crate::importing::import;
@@ -18,7 +18,7 @@ use texts::Side;
 
 /// A session, or why there is none.
 #[derive(Drop)]
-pub enum Kept {
+pub enum EmbeddedSession {
     /// A session.
     Open(Running),
     /// The program is refused, for this cause and with this line.
@@ -31,13 +31,13 @@ pub enum Kept {
     NoMemory,
 }
 
-impl Kept {
+impl EmbeddedSession {
     /// A session over a program, with its initial documents, or why there is none. The text is the payload of the first
     /// record of a log: a caller that keeps a log stores it first.
     ///
     /// - `Refused`: if and only if the program is not accepted, for the cause that `lens_of` has.
     /// - `NoMemory`: only if memory ran out.
-    pub fn open(alloc: Global, program: &[u8]) -> Kept
+    pub fn open(alloc: Global, program: &[u8]) -> EmbeddedSession
         ensures opened { IsOpened program.now result }
     {
         open(alloc, program)
@@ -51,21 +51,27 @@ impl Kept {
     /// - `StateRefused`: if and only if the program is accepted, and the text is not the JSON of a document of the
     ///   side's type. The fault is `NotLeft` or `NotRight`, after the side.
     /// - `NoMemory`: only if memory ran out.
-    pub fn import(alloc: Global, program: &[u8], side: Side, document: &[u8]) -> Kept
+    pub fn import(alloc: Global, program: &[u8], side: Side, document: &[u8]) -> EmbeddedSession
         ensures imported { IsImported program.now side document.now result }
     {
         import(alloc, program, side, document)
     }
 
     /// A session over a program that goes on from a state: the JSON of a left document, of a complement and of a right
-    /// document, as [`Kept::show`] shows them. Or why there is none. The text is the payload of the first record of a
+    /// document, as [`EmbeddedSession::show`] shows them. Or why there is none. The text is the payload of the first record of a
     /// log, and a snapshot is the second one. Items are numbered from 1 on.
     ///
     /// - `Refused`: if and only if the program is not accepted, for the cause that `lens_of` has.
     /// - `StateRefused`: if and only if the program is accepted, and a text is not one of its lens, or the three are
     ///   not consistent. The cause is the first one of [`StateFault`] that holds.
     /// - `NoMemory`: only if memory ran out.
-    pub fn resume(alloc: Global, program: &[u8], left: &[u8], comp: &[u8], right: &[u8]) -> Kept
+    pub fn resume(
+        alloc: Global,
+        program: &[u8],
+        left: &[u8],
+        comp: &[u8],
+        right: &[u8],
+    ) -> EmbeddedSession
         ensures resumed { IsResumed program.now left.now comp.now right.now result }
     {
         resume(alloc, program, left, comp, right)
@@ -78,7 +84,7 @@ impl Kept {
     /// - `RecordsRefused`: if and only if the records stand for no session. `BadRecord` and `NotConsistent` have the
     ///   number of the first record that is at fault, from 1 on.
     /// - `NoMemory`: only if memory ran out.
-    pub fn reopen(alloc: Global, records: &[u8]) -> Kept
+    pub fn reopen(alloc: Global, records: &[u8]) -> EmbeddedSession
         ensures reopened { IsReopened (texts_of records.now) result }
     {
         reopen(alloc, records)
@@ -87,7 +93,7 @@ impl Kept {
     /// Takes a line of a journal, which is without its LF.
     ///
     /// After `Done`, `NoApply` and `NotAChange` the text is the answer line, and after `Blank` it is empty. After each
-    /// other outcome the text is the one from before. After `Done` the line is kept as the last change, and after
+    /// other outcome the text is the one from before. After `Done` the line is remembered as the last change, and after
     /// `NoApply`, `NotAChange` and `Blank` there is none.
     ///
     /// - `LineFeed`: if and only if there is a session and an LF is in the line.
@@ -99,7 +105,7 @@ impl Kept {
         ensures stepped { IsStepped self.old line.now result self.new }
     {
         match self {
-            Kept::Open(running) => {
+            EmbeddedSession::Open(running) => {
                 if has_line_feed(line) {
                     return Outcome::LineFeed;
                 }
@@ -111,10 +117,10 @@ impl Kept {
                     Err(_) => Outcome::NoMemory,
                 }
             }
-            Kept::Refused(_, _)
-            | Kept::StateRefused(_)
-            | Kept::RecordsRefused(_)
-            | Kept::NoMemory => Outcome::NoSession,
+            EmbeddedSession::Refused(_, _)
+            | EmbeddedSession::StateRefused(_)
+            | EmbeddedSession::RecordsRefused(_)
+            | EmbeddedSession::NoMemory => Outcome::NoSession,
         }
     }
 
@@ -129,15 +135,15 @@ impl Kept {
         ensures shown { IsShown self.old part result self.new }
     {
         match self {
-            Kept::Open(running) => match running.show(alloc, part) {
+            EmbeddedSession::Open(running) => match running.show(alloc, part) {
                 Ok(true) => Outcome::Done,
                 Ok(false) => Outcome::NoChange,
                 Err(_) => Outcome::NoMemory,
             },
-            Kept::Refused(_, _)
-            | Kept::StateRefused(_)
-            | Kept::RecordsRefused(_)
-            | Kept::NoMemory => Outcome::NoSession,
+            EmbeddedSession::Refused(_, _)
+            | EmbeddedSession::StateRefused(_)
+            | EmbeddedSession::RecordsRefused(_)
+            | EmbeddedSession::NoMemory => Outcome::NoSession,
         }
     }
 
@@ -147,9 +153,11 @@ impl Kept {
         ensures text { result.now ≡ text_of self.now }
     {
         match self {
-            Kept::Open(running) => &running.text,
-            Kept::Refused(_, line) => line,
-            Kept::StateRefused(_) | Kept::RecordsRefused(_) | Kept::NoMemory => &[],
+            EmbeddedSession::Open(running) => &running.text,
+            EmbeddedSession::Refused(_, line) => line,
+            EmbeddedSession::StateRefused(_)
+            | EmbeddedSession::RecordsRefused(_)
+            | EmbeddedSession::NoMemory => &[],
         }
     }
 }

@@ -2,7 +2,7 @@
 
 ghost use Rattle.std.specs.Prelude.{◌≡◌};
 ghost use Rattle.edit_journal.specs.Pieces.{has_no_end, texts_of};
-ghost use Rattle.embed_hub.specs.Kept.{IsOpened, IsResumed, IsStepped, IsShown, text_of};
+ghost use Rattle.embed_hub.specs.Embedded.{IsOpened, IsResumed, IsStepped, IsShown, text_of};
 
 use crate::opening::open;
 use crate::outcome::{HubOutcome, HubPart, HubStateFault};
@@ -13,7 +13,7 @@ use std::alloc::Global;
 
 /// A hub, or why there is none.
 #[derive(Drop)]
-pub enum KeptHub {
+pub enum EmbeddedHub {
     /// A hub.
     Open(RunningHub),
     /// The program part is refused, for this cause, which is not that memory ran out, and with this line.
@@ -24,13 +24,13 @@ pub enum KeptHub {
     NoMemory,
 }
 
-impl KeptHub {
+impl EmbeddedHub {
     /// A hub over the program part of a script of the command `hub`: the texts of the views' programs, with a line
     /// `+++` between them. It is at the first documents and complements, and the text is empty. Or why there is none.
     ///
     /// - `Refused`: if and only if the program part is refused, for the cause that [`hub_run::Pieces::lenses`] has.
     /// - `NoMemory`: only if memory ran out.
-    pub fn open(alloc: Global, part: &[u8]) -> KeptHub
+    pub fn open(alloc: Global, part: &[u8]) -> EmbeddedHub
         ensures opened { IsOpened part.now result }
     {
         open(alloc, part)
@@ -44,7 +44,7 @@ impl KeptHub {
     /// - `StateRefused`: if and only if the program part is accepted, and not all texts are of the hub and consistent.
     ///   It names the first fault: the count of the texts is looked at first, then each text in order, then each view.
     /// - `NoMemory`: only if memory ran out.
-    pub fn resume(alloc: Global, part: &[u8], state: &[u8]) -> KeptHub
+    pub fn resume(alloc: Global, part: &[u8], state: &[u8]) -> EmbeddedHub
         ensures resumed { IsResumed part.now (texts_of state.now) result }
     {
         resume(alloc, part, state)
@@ -64,7 +64,7 @@ impl KeptHub {
         ensures stepped { IsStepped self.old line.now result self.new }
     {
         match self {
-            KeptHub::Open(running) => {
+            EmbeddedHub::Open(running) => {
                 if !has_no_end(line) {
                     return HubOutcome::LineFeed;
                 }
@@ -76,7 +76,7 @@ impl KeptHub {
                     Err(_) => HubOutcome::NoMemory,
                 }
             }
-            KeptHub::Refused(_, _) | KeptHub::StateRefused(_) | KeptHub::NoMemory =>
+            EmbeddedHub::Refused(_, _) | EmbeddedHub::StateRefused(_) | EmbeddedHub::NoMemory =>
                 HubOutcome::NoHub,
         }
     }
@@ -90,12 +90,12 @@ impl KeptHub {
         ensures shown { IsShown self.old part result self.new }
     {
         match self {
-            KeptHub::Open(running) => match running.show(alloc, part) {
+            EmbeddedHub::Open(running) => match running.show(alloc, part) {
                 Ok(true) => HubOutcome::Done,
                 Ok(false) => HubOutcome::NoView,
                 Err(_) => HubOutcome::NoMemory,
             },
-            KeptHub::Refused(_, _) | KeptHub::StateRefused(_) | KeptHub::NoMemory =>
+            EmbeddedHub::Refused(_, _) | EmbeddedHub::StateRefused(_) | EmbeddedHub::NoMemory =>
                 HubOutcome::NoHub,
         }
     }
@@ -106,9 +106,9 @@ impl KeptHub {
         ensures text { result.now ≡ text_of self.now }
     {
         match self {
-            KeptHub::Open(running) => &running.text,
-            KeptHub::Refused(_, line) => line,
-            KeptHub::StateRefused(_) | KeptHub::NoMemory => &[],
+            EmbeddedHub::Open(running) => &running.text,
+            EmbeddedHub::Refused(_, line) => line,
+            EmbeddedHub::StateRefused(_) | EmbeddedHub::NoMemory => &[],
         }
     }
 }

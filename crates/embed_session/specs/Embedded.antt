@@ -25,8 +25,8 @@ use Rattle.texts.specs.declared.side.Side.TheVariants as side
 use Rattle.embed_session.specs.Records.{IsFirstRecord, version_text}
 use Rattle.embed_session.specs.States.{IsDocumentText, IsNotOfType, IsStateText, IsStateFault, HasNoChange, IsShow}
 use Rattle.embed_session.specs.Steps.{form_of, has_line_feed, IsLineStep, IsAsBefore}
-use Rattle.embed_session.specs.declared.kept.Kept.{Kept}
-use Rattle.embed_session.specs.declared.kept.Kept.TheVariants as kept
+use Rattle.embed_session.specs.declared.embedded.EmbeddedSession.{EmbeddedSession}
+use Rattle.embed_session.specs.declared.embedded.EmbeddedSession.TheVariants as embedded
 use Rattle.embed_session.specs.declared.outcome.Outcome.{Outcome}
 use Rattle.embed_session.specs.declared.outcome.Outcome.TheVariants as outcome
 use Rattle.embed_session.specs.declared.outcome.Part.{Part}
@@ -45,13 +45,13 @@ pub record IsRefusedWith (program : List ℕ) (refused : Refused) (line : List �
   pub why : IsProgramRefusal (lens_of program) refused
   pub is_line : IsLineOf (lens_of program) line
 
--- what is kept of a program that is refused; or memory ran out
-abbrev pub IsRefusedProgram : List ℕ → Kept → Type 0
-IsRefusedProgram program (kept.Open r) = ⊥
-IsRefusedProgram program (kept.Refused refused line) = IsRefusedWith program refused line.items
-IsRefusedProgram program (kept.StateRefused why) = ⊥
-IsRefusedProgram program (kept.RecordsRefused why) = ⊥
-IsRefusedProgram program kept.NoMemory = Unit {0}
+-- what is held of a program that is refused; or memory ran out
+abbrev pub IsRefusedProgram : List ℕ → EmbeddedSession → Type 0
+IsRefusedProgram program (embedded.Open r) = ⊥
+IsRefusedProgram program (embedded.Refused refused line) = IsRefusedWith program refused line.items
+IsRefusedProgram program (embedded.StateRefused why) = ⊥
+IsRefusedProgram program (embedded.RecordsRefused why) = ⊥
+IsRefusedProgram program embedded.NoMemory = Unit {0}
 
 -- no item was given, and the text is the payload of the first record of a log
 pub record IsFresh (program : List ℕ) (r : Running) : Type 0 where
@@ -66,8 +66,8 @@ pub record IsStarted (program : List ℕ) (r : Running) : Type 0 where
   pub first : triple_tree r.session.triple ≡ triple_at_first (form_of r)
 
 -- a session at the first triple, or why there is none
-abbrev pub IsOpened : List ℕ → Kept → Type 0
-IsOpened program (kept.Open r) = IsStarted program r
+abbrev pub IsOpened : List ℕ → EmbeddedSession → Type 0
+IsOpened program (embedded.Open r) = IsStarted program r
 IsOpened program k = IsRefusedProgram program k
 
 -- ---- importing
@@ -105,9 +105,9 @@ pub record IsRefusedDocument (program : List ℕ) (s : Side) (text : List ℕ) (
   pub names_side : why ≡ side_fault s
 
 -- a session of which one document is that of the text, or why there is none
-abbrev pub IsImported : List ℕ → Side → List ℕ → Kept → Type 0
-IsImported program s text (kept.Open r) = IsBrought program s text r
-IsImported program s text (kept.StateRefused why) = IsRefusedDocument program s text why
+abbrev pub IsImported : List ℕ → Side → List ℕ → EmbeddedSession → Type 0
+IsImported program s text (embedded.Open r) = IsBrought program s text r
+IsImported program s text (embedded.StateRefused why) = IsRefusedDocument program s text why
 IsImported program s text k = IsRefusedProgram program k
 
 -- ---- going on
@@ -126,9 +126,9 @@ pub record IsRefusedState (program left comp right : List ℕ) (why : StateFault
   pub known : why ≡ fault.NoMemory → ⊥
 
 -- a session at the triple of the three texts, or why there is none
-abbrev pub IsResumed : List ℕ → List ℕ → List ℕ → List ℕ → Kept → Type 0
-IsResumed program left comp right (kept.Open r) = IsGoingOn program left comp right r
-IsResumed program left comp right (kept.StateRefused why) = IsRefusedState program left comp right why
+abbrev pub IsResumed : List ℕ → List ℕ → List ℕ → List ℕ → EmbeddedSession → Type 0
+IsResumed program left comp right (embedded.Open r) = IsGoingOn program left comp right r
+IsResumed program left comp right (embedded.StateRefused why) = IsRefusedState program left comp right why
 IsResumed program left comp right k = IsRefusedProgram program k
 
 -- ---- reopening
@@ -150,25 +150,25 @@ pub record IsRefusedLog (records : List (List ℕ)) (why : RecordFault) : Type 0
   pub known : why ≡ record_fault.NoMemory → ⊥
 
 -- the session for which the records stand, or why there is none
-abbrev pub IsReopened : List (List ℕ) → Kept → Type 0
-IsReopened records (kept.Open r) = IsStanding records r
-IsReopened records (kept.RecordsRefused why) = IsRefusedLog records why
-IsReopened records kept.NoMemory = Unit {0}
+abbrev pub IsReopened : List (List ℕ) → EmbeddedSession → Type 0
+IsReopened records (embedded.Open r) = IsStanding records r
+IsReopened records (embedded.RecordsRefused why) = IsRefusedLog records why
+IsReopened records embedded.NoMemory = Unit {0}
 IsReopened records k = ⊥
 
 -- ---- a line
 
--- a session that is kept, of which the fact holds
-abbrev pub IfOpen : Kept → (Running → Type 0) → Type 0
-IfOpen (kept.Open r) P = P r
-IfOpen (kept.Refused refused line) P = ⊥
-IfOpen (kept.StateRefused why) P = ⊥
-IfOpen (kept.RecordsRefused why) P = ⊥
-IfOpen kept.NoMemory P = ⊥
+-- a session that is held, of which the fact holds
+abbrev pub IfOpen : EmbeddedSession → (Running → Type 0) → Type 0
+IfOpen (embedded.Open r) P = P r
+IfOpen (embedded.Refused refused line) P = ⊥
+IfOpen (embedded.StateRefused why) P = ⊥
+IfOpen (embedded.RecordsRefused why) P = ⊥
+IfOpen embedded.NoMemory P = ⊥
 
 -- a line without an LF: it is blank or an item; or no number is left, or memory ran out
-abbrev pub takes_line : Running → List ℕ → Outcome → Kept → Type 0
-takes_line before line outcome.Full after = (before.number ≡ last_number) × (after ≡ kept.Open before)
+abbrev pub takes_line : Running → List ℕ → Outcome → EmbeddedSession → Type 0
+takes_line before line outcome.Full after = (before.number ≡ last_number) × (after ≡ embedded.Open before)
 takes_line before line outcome.NoMemory after = IfOpen after (IsAsBefore before)
 takes_line before line outcome.LineFeed after = ⊥
 takes_line before line outcome.NoChange after = ⊥
@@ -176,35 +176,35 @@ takes_line before line outcome.NoSession after = ⊥
 takes_line before line end after = IfOpen after (IsLineStep before line end)
 
 -- a line with an LF in it is refused, and nothing changes
-abbrev pub takes_bytes : Bool → Running → List ℕ → Outcome → Kept → Type 0
-takes_bytes true before line end after = (end ≡ outcome.LineFeed) × (after ≡ kept.Open before)
+abbrev pub takes_bytes : Bool → Running → List ℕ → Outcome → EmbeddedSession → Type 0
+takes_bytes true before line end after = (end ≡ outcome.LineFeed) × (after ≡ embedded.Open before)
 takes_bytes false before line end after = takes_line before line end after
 
 -- a line of these bytes, where there is a session; otherwise nothing changes
-abbrev pub IsStepped : Kept → List ℕ → Outcome → Kept → Type 0
-IsStepped (kept.Open r) line end after = takes_bytes (has_line_feed line) r line end after
+abbrev pub IsStepped : EmbeddedSession → List ℕ → Outcome → EmbeddedSession → Type 0
+IsStepped (embedded.Open r) line end after = takes_bytes (has_line_feed line) r line end after
 IsStepped k line end after = (end ≡ outcome.NoSession) × (after ≡ k)
 
 -- ---- the state
 
 -- the part is shown; or there is no change that it is of, or memory ran out
-abbrev pub shows_part : Running → Part → Outcome → Kept → Type 0
+abbrev pub shows_part : Running → Part → Outcome → EmbeddedSession → Type 0
 shows_part before part outcome.Done after = IfOpen after (IsShow before part)
 shows_part before part outcome.NoChange after = HasNoChange (form_of before) before.accepted part
-    × (after ≡ kept.Open before)
-shows_part before part outcome.NoMemory after = after ≡ kept.Open before
+    × (after ≡ embedded.Open before)
+shows_part before part outcome.NoMemory after = after ≡ embedded.Open before
 shows_part before part end after = ⊥
 
 -- a part of the state, where there is a session; otherwise nothing changes
-abbrev pub IsShown : Kept → Part → Outcome → Kept → Type 0
-IsShown (kept.Open r) part end after = shows_part r part end after
+abbrev pub IsShown : EmbeddedSession → Part → Outcome → EmbeddedSession → Type 0
+IsShown (embedded.Open r) part end after = shows_part r part end after
 IsShown k part end after = (end ≡ outcome.NoSession) × (after ≡ k)
 
 -- ---- the text that answers the last call
 
-abbrev pub text_of : Kept → List ℕ
-text_of (kept.Open r) = r.text.items
-text_of (kept.Refused refused line) = line.items
-text_of (kept.StateRefused why) = []
-text_of (kept.RecordsRefused why) = []
-text_of kept.NoMemory = []
+abbrev pub text_of : EmbeddedSession → List ℕ
+text_of (embedded.Open r) = r.text.items
+text_of (embedded.Refused refused line) = line.items
+text_of (embedded.StateRefused why) = []
+text_of (embedded.RecordsRefused why) = []
+text_of embedded.NoMemory = []
