@@ -1,4 +1,4 @@
-//! A hub with the typed forms of its lenses.
+//! A hub of lenses over forms, as the calls of the library take it.
 
 ghost use Rattle.std.specs.Prelude.{◌≡◌, IfOk, OnErr, map, option_map};
 ghost use Rattle.lens_forms.specs.Forms.{form_tree};
@@ -20,10 +20,9 @@ use std::alloc::{AllocError, Global};
 use std::marker::Model;
 use view_hub::{Hub, HubParts, copy_parts};
 
-/// A hub with the typed forms of its lenses, one for each view. Contracts see it as the hub.
+/// A hub of lenses over forms. Contracts see it as the hub.
 #[derive(Drop)]
 pub struct FormHub {
-    typed: Vec<Typed>,
     hub: Hub<Flat>,
 }
 
@@ -37,13 +36,7 @@ impl Model for FormHub {
 
     ghost coded = { hub_code ready_form.the_row.coded parts_type.the_row.coded };
 
-    ghost use Rattle.std.specs.Prelude.{◌≡◌, map};
-    ghost use Rattle.lens_forms.specs.Forms.{form_tree};
-    ghost use Rattle.hub_run.specs.RunStates.{forms_of_lenses};
-
     ghost view = { λ h. h.hub };
-
-    ghost invariant = { λ h. map form_tree h.typed.items ≡ forms_of_lenses h.hub.lenses };
 }
 
 impl FormHub {
@@ -55,9 +48,11 @@ impl FormHub {
         ensures state { IfOk result (λ h. hub_state_of h ≡ first_state (map form_tree typed.items)) }
         ensures in_step { IfOk result (λ h. StaysInStep h) }
     {
-        let hub = first_hub(alloc, &typed)?;
+        let hub = first_hub(alloc, &typed);
+        drop(typed);
+        let hub = hub?;
         is_in_step(&hub);
-        Ok(FormHub { typed, hub })
+        Ok(FormHub { hub })
     }
 
     /// A hub of these lenses at this state, of which each view is in its lens's relation with the hub's document.
@@ -74,8 +69,9 @@ impl FormHub {
         ensures parts { IfOk result (λ h. hub_tree h.parts ≡ hub_tree parts) }
         ensures in_step { IfOk result (λ h. StaysInStep h) }
     {
-        let hub = hub_at(alloc, &typed, parts)?;
-        Ok(FormHub { typed, hub })
+        let hub = hub_at(alloc, &typed, parts);
+        drop(typed);
+        Ok(FormHub { hub: hub? })
     }
 
     /// Takes the item with this number, which is not blank. Returns its answer line, and how the step ends.
