@@ -4,20 +4,43 @@
 //! lens program, a left document, a complement, a right document, and the answer that is wanted. reference/CASES.md has
 //! the form. Each file gives one line, as `consistency: 30 cases, 0 differ`. Above it is a line for each case that
 //! differs. The program fails if a case differs, if a line is not a case, and if a file cannot be read or has no line.
+//!
+//! Then the documents and complements of all rows are read by their tokens and as trees, as they are and with damage.
+//! The last lines say how many there were, and how they were read. The program fails if the two ways differ.
 #![tactic(auto)]
 
 mod case;
 mod decision;
+mod ways;
 
 use crate::case::Case;
 use crate::decision::decided;
+use crate::ways::RowWays;
 use anyhow::Result;
 use case_files::{CaseLine, compare_files};
 use serde_json::Value;
 use std::alloc::Global;
+use std::{env, fs};
 
 fn main(rt: HostRuntime) -> Result<()> {
-    compare_files::<Consistency, HostRuntime>(&rt)
+    compare_files::<Consistency, HostRuntime>(&rt)?;
+    read_both_ways(&rt)
+}
+
+// Reads the rows of all files in both ways.
+fn read_both_ways(rt: &HostRuntime) -> Result<()> {
+    let alloc = rt.alloc();
+    let words: Vec<String> = env::args(rt)?.collect(alloc)?;
+    let mut ways = RowWays::new(alloc);
+    for file in words.iter().skip(1) {
+        let text = fs::read_to_string(rt, file.as_str())?;
+        for row in text.lines() {
+            ways.take(alloc, row)?;
+        }
+    }
+    let report = ways.report(alloc)?;
+    println!(rt; "{report}")?;
+    Ok(())
 }
 
 // Decisions of consistency.
