@@ -97,7 +97,10 @@ def line_rows(chance, count):
 
 
 def nested_rows():
-    """Lines that nest nearly as deep as a text may, and deeper. A row that has an answer nests one deeper than that."""
+    """Lines that nest nearly as deep as a text may, and deeper.
+
+    A row with its answer nests one deeper than the line. So a line that nests just as deep as a text may is only asked whether it is blank.
+    """
     for levels in (40, 41, 42):
         for word in INNERMOST:
             for _ in range(levels):

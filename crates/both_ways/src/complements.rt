@@ -1,16 +1,16 @@
 //! Complements of a lens, read in both ways.
 
 use crate::counts::Way;
-use crate::ways::Texts;
+use crate::ways::{Pair, Texts};
 use anyhow::{Result, bail};
 use complement_file::{CompFault, read_comp, write_comp};
 use edit_journal::{EntryFault, read_tree};
 use json::Scratch;
 use lens_check::conforms;
 use lens_core::Comp;
+use lens_tokens::complement_of_tokens;
 use lens_types::Typed;
 use serde_json::Value;
-use lens_tokens::complement_of_tokens;
 use std::alloc::Global;
 
 /// Complements of a lens.
@@ -20,37 +20,37 @@ pub struct Complements<'a> {
 }
 
 impl<'a> Texts for Complements<'a> {
-    fn way(&self, alloc: Global, text: &[u8], scratch: &mut Scratch) -> Result<Way> {
-        let as_tree = comp_as_tree(alloc, self.lens, text)?;
-        let by_tokens = comp_by_tokens(alloc, self.lens, text, scratch);
-        if is_other(alloc, self.lens, &by_tokens, &as_tree)? {
-            bail!("{text:?} is another complement as a tree");
-        }
-        Ok(Way::new(by_tokens.is_some(), as_tree.is_some()))
+    fn way(&self, alloc: Global, both: &Pair<'_>, scratch: &mut Scratch) -> Result<Option<Way>> {
+        let as_tree = comp_as_tree(alloc, self.lens, both.as_tree)?;
+        let by_tokens = comp_by_tokens(alloc, self.lens, both.by_tokens, scratch);
+        comp_way(alloc, self.lens, &by_tokens, &as_tree)
     }
 }
 
-// Whether a complement was read by tokens, and the text is not one or has another tree. Complements of a lens that
-// differ have trees that differ.
-fn is_other(
+// How a complement was read. `None` if one was read by tokens, and the tree is not one or is another. Complements of a
+// lens that differ have trees that differ.
+fn comp_way(
     alloc: Global,
     lens: &Typed,
     by_tokens: &Option<Box<Comp>>,
     as_tree: &Option<Value>,
-) -> Result<bool> {
+) -> Result<Option<Way>> {
     match (by_tokens, as_tree) {
-        (Some(comp), Some(tree)) => has_other_tree(alloc, lens, comp, tree),
-        (Some(_), None) => Ok(true),
-        (None, _) => Ok(false),
+        (Some(comp), Some(tree)) => way_of_both(alloc, lens, comp, tree),
+        (Some(_), None) => Ok(None),
+        (None, Some(_)) => Ok(Some(Way::Tree)),
+        (None, None) => Ok(Some(Way::Refused)),
     }
 }
 
-fn has_other_tree(alloc: Global, lens: &Typed, comp: &Comp, tree: &Value) -> Result<bool> {
+fn way_of_both(alloc: Global, lens: &Typed, comp: &Comp, tree: &Value) -> Result<Option<Way>> {
     if !conforms(lens, comp) {
-        return Ok(true);
+        return Ok(None);
     }
     let written = write_comp(alloc, lens, comp)?;
-    Ok(written != *tree)
+    let is_same = written == *tree;
+    drop(written);
+    Ok(is_same.then_some(Way::Tokens))
 }
 
 // The complement of the lens that a text is by its tokens. `None` says nothing of the text.
@@ -67,10 +67,17 @@ fn comp_by_tokens(
 // The tree of a text, if it is that of a complement of the lens.
 fn comp_as_tree(alloc: Global, lens: &Typed, text: &[u8]) -> Result<Option<Value>> {
     match read_tree(alloc, text) {
-        Ok(tree) if is_comp(alloc, lens, &tree)? => Ok(Some(tree)),
-        Ok(_) => Ok(None),
+        Ok(tree) => if_comp(alloc, lens, tree),
         Err(EntryFault::NoMemory) => bail!("out of memory"),
         Err(_) => Ok(None),
+    }
+}
+
+fn if_comp(alloc: Global, lens: &Typed, tree: Value) -> Result<Option<Value>> {
+    if is_comp(alloc, lens, &tree)? {
+        Ok(Some(tree))
+    } else {
+        Ok(None)
     }
 }
 

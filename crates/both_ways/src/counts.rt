@@ -13,17 +13,6 @@ pub enum Way {
     Refused,
 }
 
-impl Way {
-    /// The way of a text that was read by its tokens or not, and as a tree or not.
-    pub fn new(by_tokens: bool, as_tree: bool) -> Way {
-        match (by_tokens, as_tree) {
-            (true, _) => Way::Tokens,
-            (false, true) => Way::Tree,
-            (false, false) => Way::Refused,
-        }
-    }
-}
-
 /// How many texts were read in each way.
 #[derive(Clone, Copy)]
 pub(crate) struct Counts {

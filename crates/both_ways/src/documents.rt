@@ -1,13 +1,13 @@
 //! Documents of a type, read in both ways.
 
 use crate::counts::Way;
-use crate::ways::Texts;
+use crate::ways::{Pair, Texts};
 use anyhow::{Result, bail};
 use doc_values::{Doc, Ty};
 use edit_journal::{EntryFault, read_tree};
 use json::Scratch;
-use serde_json::Value;
 use lens_tokens::document_of_tokens;
+use serde_json::Value;
 use std::alloc::Global;
 use value_json::{DocFault, read_doc};
 
@@ -18,22 +18,20 @@ pub struct Documents<'a> {
 }
 
 impl<'a> Texts for Documents<'a> {
-    fn way(&self, alloc: Global, text: &[u8], scratch: &mut Scratch) -> Result<Way> {
-        let as_tree = doc_as_tree(alloc, self.ty, text)?;
-        let by_tokens = doc_by_tokens(alloc, self.ty, text, scratch);
-        if is_other(&by_tokens, &as_tree) {
-            bail!("{text:?} is another document as a tree");
-        }
-        Ok(Way::new(by_tokens.is_some(), as_tree.is_some()))
+    fn way(&self, alloc: Global, both: &Pair<'_>, scratch: &mut Scratch) -> Result<Option<Way>> {
+        let as_tree = doc_as_tree(alloc, self.ty, both.as_tree)?;
+        let by_tokens = doc_by_tokens(alloc, self.ty, both.by_tokens, scratch);
+        Ok(doc_way(&by_tokens, &as_tree))
     }
 }
 
-// Whether a document was read by tokens and is not the one of the tree.
-fn is_other(by_tokens: &Option<Box<Doc>>, as_tree: &Option<Box<Doc>>) -> bool {
+// How a document was read. `None` if one was read by tokens, and not the same one as a tree.
+fn doc_way(by_tokens: &Option<Box<Doc>>, as_tree: &Option<Box<Doc>>) -> Option<Way> {
     match (by_tokens, as_tree) {
-        (Some(one), Some(other)) => !one.is_same(other),
-        (Some(_), None) => true,
-        (None, _) => false,
+        (Some(one), Some(other)) if one.is_same(other) => Some(Way::Tokens),
+        (Some(_), _) => None,
+        (None, Some(_)) => Some(Way::Tree),
+        (None, None) => Some(Way::Refused),
     }
 }
 

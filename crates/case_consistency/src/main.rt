@@ -17,30 +17,14 @@ use crate::case::Case;
 use crate::decision::decided;
 use crate::ways::RowWays;
 use anyhow::Result;
+use both_ways::read_rows;
 use case_files::{CaseLine, compare_files};
 use serde_json::Value;
 use std::alloc::Global;
-use std::{env, fs};
 
 fn main(rt: HostRuntime) -> Result<()> {
     compare_files::<Consistency, HostRuntime>(&rt)?;
-    read_both_ways(&rt)
-}
-
-// Reads the rows of all files in both ways.
-fn read_both_ways(rt: &HostRuntime) -> Result<()> {
-    let alloc = rt.alloc();
-    let words: Vec<String> = env::args(rt)?.collect(alloc)?;
-    let mut ways = RowWays::new(alloc);
-    for file in words.iter().skip(1) {
-        let text = fs::read_to_string(rt, file.as_str())?;
-        for row in text.lines() {
-            ways.take(alloc, row)?;
-        }
-    }
-    let report = ways.report(alloc)?;
-    println!(rt; "{report}")?;
-    Ok(())
+    read_rows(&rt, RowWays::new(rt.alloc()))
 }
 
 // Decisions of consistency.

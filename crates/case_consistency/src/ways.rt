@@ -3,7 +3,7 @@
 use crate::case::Case;
 use crate::decision::lens_of;
 use anyhow::Result;
-use both_ways::{BothWays, Complements, Documents};
+use both_ways::{BothWays, Complements, Documents, Rows};
 use doc_values::Ty;
 use lens_types::Typed;
 use serde_json::Value;
@@ -30,17 +30,17 @@ impl RowWays {
         }
     }
 
-    /// Reads the triple of a row. It is refused if a part is read differently in the two ways.
-    pub fn take(&mut self, alloc: Global, row: &str) -> Result<()> {
-        let row = Value::from_str(alloc, row)?;
-        self.take_case(alloc, &Case::from_row(&row)?)
+    // Reads the triple of a row.
+    fn take_row(&mut self, alloc: Global, row: &Value) -> Result<()> {
+        let case = Case::from_row(row)?;
+        let lens = Box::new(alloc, lens_of(alloc, case.program()?)?)?;
+        self.take_triple(alloc, &lens, &case)
     }
 
-    fn take_case(&mut self, alloc: Global, case: &Case<'_>) -> Result<()> {
-        let lens = lens_of(alloc, case.program()?)?;
+    fn take_triple(&mut self, alloc: Global, lens: &Typed, case: &Case<'_>) -> Result<()> {
         self.take_doc(alloc, lens.left(), case.part("left")?)?;
         self.take_doc(alloc, lens.right(), case.part("right")?)?;
-        self.take_comp(alloc, &lens, case.part("complement")?)
+        self.take_comp(alloc, lens, case.part("complement")?)
     }
 
     fn take_doc(&mut self, alloc: Global, ty: &Ty, tree: &Value) -> Result<()> {
@@ -54,9 +54,17 @@ impl RowWays {
         self.complements
             .take(alloc, &Complements { lens }, text.as_bytes())
     }
+}
 
-    /// Lines that say how many documents and complements there were, and how they were read.
-    pub fn report(&self, alloc: Global) -> Result<String> {
+impl Rows for RowWays {
+    fn take(&mut self, alloc: Global, row: &str) -> Result<()> {
+        let row = Value::from_str(alloc, row)?;
+        let taken = self.take_row(alloc, &row);
+        drop(row);
+        taken
+    }
+
+    fn report(&self, alloc: Global) -> Result<String> {
         let documents = self.documents.lines(alloc, "documents in both ways")?;
         let complements = self.complements.lines(alloc, "complements in both ways")?;
         Ok(format!(in alloc; "{documents}\n{complements}")?)
