@@ -97,8 +97,8 @@ fn is_in(image: Option<Pattern>, document: &Doc) -> bool {
     }
 }
 
-// The lens of a program. It is refused if the program is.
-fn lens_of(alloc: Global, program: &str) -> Result<Typed> {
+/// Returns the lens of a program. It is refused if the program is.
+pub fn lens_of(alloc: Global, program: &str) -> Result<Typed> {
     match read_program(alloc, program.as_bytes()) {
         Ok(program) => checked(alloc, &program),
         Err(fault) => bail!("the program is not read: {fault:?}"),

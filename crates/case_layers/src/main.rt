@@ -6,6 +6,9 @@
 //! `plans: 153 cases, 0 differ`. Above it is what was wanted and what came for each case that differs. The program
 //! fails if a case differs, if a line is not a case, and if a file is not readable or has no line.
 //!
+//! Then the lines, words and documents of all rows are read by their tokens and as trees, as they are and with damage.
+//! The last lines say how many there were, and how they were read. The program fails if the two ways differ.
+//!
 //! Values of many variants, such as types and programs, are put in a `Box` or let go by `drop`. Each is then dropped by
 //! one call. At the end of a block they would be dropped variant by variant, which takes long to prove.
 #![tactic(auto)]
@@ -23,18 +26,22 @@ mod shape_trees;
 mod shapes;
 mod tokens;
 mod type_trees;
+mod ways;
 mod word_trees;
 mod words;
 
 use crate::calls::outcome;
 use crate::case::Case;
+use crate::ways::RowWays;
 use anyhow::Result;
+use both_ways::read_rows;
 use case_files::{CaseLine, compare_files};
 use serde_json::Value;
 use std::alloc::Global;
 
 fn main(rt: HostRuntime) -> Result<()> {
-    compare_files::<Layers, HostRuntime>(&rt)
+    compare_files::<Layers, HostRuntime>(&rt)?;
+    read_rows(&rt, RowWays::new(rt.alloc()))
 }
 
 // The calls of the libraries.
