@@ -1,3 +1,4 @@
+mod Examples
 mod Xor
 pub mod Shifts
 mod TableSteps

@@ -28,7 +28,7 @@ state_after state (byte ∷ bytes) = state_after (step state byte) bytes
 abbrev pub turned : ℕ → ℕ
 turned number = bit_xor number 0xFFFFFFFF
 
--- The sum of bytes, and of those before them, whose sum is given. A sum is a turned state. Nothing has the sum 0, so the
--- first state is 0xFFFFFFFF.
+-- The sum of bytes, and of those before them, whose sum is given. A sum is a turned state. No bytes have the sum 0, so
+-- the first state is 0xFFFFFFFF.
 abbrev pub crc32c : ℕ → List ℕ → ℕ
 crc32c before bytes = turned (state_after (turned before) bytes)

@@ -4,8 +4,8 @@ ghost use Rattle.record_sums.specs.Crc32c.{crc32c, step};
 
 use crate::table::SHIFTED_BYTES;
 
-/// The CRC-32C of bytes, and of those before them, whose sum is given. Nothing has the sum 0, so `crc32c(0, bytes)` is
-/// the sum of these bytes alone. Does not allocate.
+/// The CRC-32C of bytes, and of those before them, whose sum is given. No bytes have the sum 0, so `crc32c(0, bytes)`
+/// is the sum of these bytes alone. Does not allocate.
 pub fn crc32c(before: u32, bytes: &[u8]) -> u32
     ensures { result ≡ crc32c before bytes.now }
 {

@@ -10,6 +10,12 @@ pub fn a_changed_byte_is_noticed()
         → record_sum before number one ≢ record_sum before number other }
 {}
 
+/// Bytes that differ in exactly one byte differ only within 32 adjacent bits.
+pub fn a_changed_byte_is_a_burst()
+    ensures { (one other : List ℕ) → IsBytes one → IsBytes other → DifferInOneByte one other
+        → DifferWithin 32 one other }
+{}
+
 /// Two payloads that differ only within 32 adjacent bits have different checksums.
 pub fn a_changed_burst_is_noticed()
     ensures { (before number : ℕ) (one other : List ℕ) → IsBytes one → IsBytes other → DifferWithin 32 one other
