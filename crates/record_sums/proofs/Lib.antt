@@ -1,0 +1,10 @@
+mod Examples
+mod Xor
+pub mod Shifts
+mod TableSteps
+pub mod BitRuns
+mod SumsInPieces
+pub mod ByteBits
+pub mod Differences
+pub mod Noticed
+pub mod ChainBreaks
