@@ -1,9 +1,12 @@
 """Edits that were made for older documents, carried to newer ones: what both ways lead to, what is refused, and where each edit is."""
 
 import collections
+import os
 import random
 
 from editlens.edits import NoApply, act
+from editlens.json_text import read_json, write_json
+from editlens.program import TOP
 from editlens.rebase import SAME, Cause, DoesNotAct, NotCarried, bridge_of, carry, flipped, then
 from editlens.rebase.bridges import Then
 from editlens.types import initial, read_type
@@ -189,6 +192,25 @@ def test_examples():
     for text, document, first, second, wanted in EXAMPLES:
         ty = read_type(text)
         assert carried(ty, document, first, second, act(ty, document, first)) == wanted, (text, first, second)
+
+
+def rows_of_page():
+    """The examples of the table in docs/EDITS.md: a type, a document, two edits, and what the second becomes."""
+    with open(os.path.join(TOP, "docs", "EDITS.md"), encoding="utf-8") as file:
+        section = file.read().split("\n## Edits for older documents\n")[1].split("\n## ")[0]
+    for line in section.split("\n"):
+        cells = [it.strip("`") for it in line.strip("| ").split(" | ")]
+        if line.startswith("| `") and len(cells) == 5:
+            yield cells
+
+
+def test_the_examples_of_the_page():
+    found = list(rows_of_page())
+    assert len(found) >= 20, found
+    for text, document, first, second, wanted in found:
+        ty, document, first, second = read_type(text), *map(read_json, (document, first, second))
+        became = carried(ty, document, first, second, act(ty, document, first))
+        assert wanted == (became.value if isinstance(became, Cause) else write_json(became)), (text, document, first, second, became)
 
 
 def test_a_tree_that_would_be_too_deep():
