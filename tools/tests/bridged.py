@@ -5,7 +5,7 @@ import random
 
 from editlens.documents import fits
 from editlens.edits import NoApply, act, children_of, paths_of
-from editlens.rebase.bridges import Arm, Away, Cells, Lost, Other, Parts, Places, Same, Then
+from editlens.rebase.bridges import Arm, Away, Cells, Lost, Other, Parts, Places, Same
 from editlens.rebase.runs import ADDED, GONE, KEPT
 from editlens.rebase.shapes import name_of, shape_of, size, without_block
 from editlens.types import Ty, read_type
@@ -145,5 +145,3 @@ def some_word(ty, document, count):
 def some_count():
     return random.choice([0, 1, 1, 2, 3, 5])
 
-
-__all__ = ["Then", "contents_of", "numbered", "small_cases", "some_count", "some_word", "spans"]

@@ -167,6 +167,15 @@ def test_a_refusal_of_the_session():
     assert client.took(1, offers[1].word, offers[1].ticket) == [] and client.document == [6, 2] and not client.waiting
 
 
+def test_what_stands_beside_what_a_lost_edit_has_moved():
+    """The first edit moves an item to the end, and the second puts one in front of it. Without the first it stays behind the one before."""
+    client, offers = a_client("list int", [1, 2, 3])
+    client.edit([{"move": [0, 2]}])
+    client.edit([{"ins": 1}, {"move": [3, 2]}, {"mod": [2, [{"set": 9}]]}])
+    assert client.shown == [2, 3, 9, 1]
+    assert client.refused(offers[0].ticket, "not-allowed") == [LostEdit(1, "not-allowed")] and client.shown == [1, 2, 3, 9]
+
+
 def test_a_stale_edit_is_offered_again_when_the_changes_came():
     client, offers = a_client("list int", [1, 2])
     client.edit([{"mod": [1, [{"add": 5}]]}])

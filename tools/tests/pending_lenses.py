@@ -41,7 +41,10 @@ def some_lens(depth=3):
 
 
 def some_row(name, depth):
-    return random.choice([(name, name + "z", some_lens(depth - 1)), (name, name, some_lens(depth - 1)), ("left", name, some_type(1)), ("right", name, some_type(1))])
+    """A row that ties two fields, or a field of one side alone."""
+    if random.random() < 0.5:
+        return (name, random.choice([name, name + "z"]), some_lens(depth - 1))
+    return (random.choice(["left", "right"]), name, some_type(1))
 
 
 class Pair:

@@ -39,7 +39,7 @@ def carried(ty, document, first, second, after):
 
 
 def test_pairs_of_small_primitives():
-    """All pairs over small documents. The counts are those of docs/TOOLS.md; each refusal has its row of the table there."""
+    """All pairs over small documents. Each refusal is of a row of the table in docs/EDITS.md, and each of these rows refuses some pair."""
     counts, said = collections.Counter(), collections.Counter()
     for ty, document, primitives in small_cases(4):
         afters = [act(ty, document, [it]) for it in primitives]
