@@ -38,7 +38,7 @@ function shownAt(text, number, document, events) {
   };
   return events.map(([name, ...content]) => {
     const lost = calls[name](...content);
-    const rows = Array.isArray(lost) ? lost.map((it) => [it.edit, it.cause, it.restsOn]) : [];
+    const rows = Array.isArray(lost) ? lost.map((it) => [it.edit, it.cause, it.restsOn, it.sentence]) : [];
     const offered = client.offered && [client.offered.number, client.offered.word];
     return [client.shown, client.document, client.waiting.map((it) => [it.edit, it.word]), rows, offered, offers.length];
   });

@@ -16,6 +16,7 @@ from typing import Any, List, Optional, Protocol, Tuple
 
 from .edits import NoApply, act
 from .rebase import Bridge, NotCarried, bridge_of, carry, flipped
+from .rebase.causes import SENTENCES
 from .types import Ty
 
 STALE = "stale"
@@ -48,6 +49,14 @@ class LostEdit:
     edit: int
     cause: str
     rests_on: Optional[int] = None
+
+    @property
+    def sentence(self) -> str:
+        """Why it was dropped, for a person."""
+        if self.rests_on is not None:
+            return f"edit {self.edit} rests on edit {self.rests_on}, which was dropped"
+        said = {it.value: sentence for it, sentence in SENTENCES.items()}
+        return f"edit {self.edit} was dropped: {said.get(self.cause, f'the session answered {self.cause}')}"
 
 
 @dataclass(frozen=True)

@@ -151,7 +151,10 @@ def test_what_rests_on_a_lost_edit_is_lost():
     client, offers = a_client("keyed {n: int}", {"a": {"n": 1}})
     assert [client.edit(it) for it in ([{"put": "b"}], [{"mod": ["b", [{"at": ["n", [{"set": 5}]]}]]}], [{"mod": ["a", [{"at": ["n", [{"add": 1}]]}]]}])] == [1, 2, 3]
     assert client.shown == {"a": {"n": 2}, "b": {"n": 5}} and [it.word for it in offers] == [[{"put": "b"}]]
-    assert client.took(1, [{"put": "b"}]) == [LostEdit(1, "taken"), LostEdit(2, "gone", rests_on=1)]
+    lost = client.took(1, [{"put": "b"}])
+    assert lost == [LostEdit(1, "taken"), LostEdit(2, "gone", rests_on=1)]
+    taken = "edit 1 was dropped: another edit has given this key to something else"
+    assert [it.sentence for it in lost] == [taken, "edit 2 rests on edit 1, which was dropped"]
     assert client.shown == {"a": {"n": 2}, "b": {"n": 0}} and client.document == {"a": {"n": 1}, "b": {"n": 0}}
     assert client.refused(offers[0].ticket, "stale") == []
     assert [(it.number, it.word) for it in offers[1:]] == [(1, [{"mod": ["a", [{"at": ["n", [{"add": 1}]]}]]}])]

@@ -113,7 +113,7 @@ class Listening(Seat):
     def note(self, event, call):
         lost = call()
         self.events.append(event)
-        rows = [[it.edit, it.cause, it.rests_on] for it in lost] if isinstance(lost, list) else []
+        rows = [[it.edit, it.cause, it.rests_on, it.sentence] for it in lost] if isinstance(lost, list) else []
         real, offered = self.real, self.real.offered
         waiting = [[it.edit, it.word] for it in real.waiting]
         self.states.append([real.shown, real.document, waiting, rows, offered and [offered.number, offered.word], len(self.offers)])

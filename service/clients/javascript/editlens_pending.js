@@ -7,10 +7,10 @@
 //     import { PendingEdits } from "./editlens_pending.js";
 //     const edits = new PendingEdits(type, number, document, { offer: (offer) => send(offer) });
 //     edits.edit([{ at: ["hours", [{ add: 1 }]] }]);        // edits.shown has it
-//     for (const { edit, cause } of edits.took(number, word, ticket)) tell(edit, cause);
+//     for (const { sentence } of edits.took(number, word, ticket)) tell(sentence);
 
 import { Overflow, act } from "./editlens_act.js";
-import { NotCarried, bridgeOf, carry, flipped } from "./editlens_rebase.js";
+import { NotCarried, SENTENCES, bridgeOf, carry, flipped } from "./editlens_rebase.js";
 import { writeJson } from "./editlens_json.js";
 
 /** The cause of a refusal because changes came before: the edit is offered again when they are here. */
@@ -26,14 +26,18 @@ function freshTicket() {
   return Array.from(bytes, (byte) => byte.toString(16).padStart(2, "0")).join("");
 }
 
-const lostEdit = (edit, cause, restsOn = null) => ({ edit, cause, restsOn });
+function lostEdit(edit, cause, restsOn = null) {
+  const said = SENTENCES[cause] ?? `the session answered ${cause}`;
+  const sentence = restsOn === null ? `edit ${edit} was dropped: ${said}` : `edit ${edit} rests on edit ${restsOn}, which was dropped`;
+  return { edit, cause, restsOn, sentence };
+}
 
 /**
  * The document as a person sees it: `document` is that of the state `number` of the session, and `shown` has the edits in `waiting` too.
  *
  * `connection.offer` sends an offer: `ticket`, `number` and `word`. One that is sent again is the same, and must not be made a second time:
  * the ticket is its Idempotency-Key. Answers come later, by `took` and `refused`. Both return the edits that are dropped, each with `edit`,
- * its number, `cause`, and `restsOn`: the number of the dropped edit without which it has no place, or null.
+ * its number, `cause`, `restsOn`, the number of the dropped edit without which it has no place or null, and `sentence`, for a person.
  */
 export class PendingEdits {
   constructor(type, number, document, connection) {

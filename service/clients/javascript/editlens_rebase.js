@@ -29,7 +29,8 @@ export const SAME = { is: "same" };
 /** Why an edit is not carried. */
 export const Cause = { GONE: "gone", TAKEN: "taken", KEPT: "kept", CYCLE: "cycle", DEEP: "deep", CHANGED: "changed" };
 
-const SENTENCES = {
+/** Each cause in words, for a person. */
+export const SENTENCES = {
   gone: "what this edit changes is not there any more: another edit has deleted or replaced it",
   taken: "another edit has given this key to something else",
   kept: "another edit has moved a node that this edit keeps below the node that it deletes",
