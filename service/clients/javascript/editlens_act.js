@@ -1,5 +1,5 @@
 // What an edit does to a document of a known type, by the rules of docs/EDITS.md. The service has checked each edit that is followed here, so
-// nothing is refused. Documents are never changed: an edit makes a new one.
+// nothing is refused but a sum that does not fit. Documents are never changed: an edit makes a new one.
 
 import { whole } from "./editlens_json.js";
 
@@ -66,10 +66,19 @@ export function act(type, document, edit) {
 
 const withMember = (object, name, value) => Object.fromEntries(Object.entries({ ...object, [name]: null }).map(([it, old]) => [it, it === name ? value : old]));
 
+/** A sum that does not fit into 64 bits. */
+export class Overflow extends RangeError {}
+
+function sumOf(one, other) {
+  const sum = BigInt(one) + BigInt(other);
+  if (BigInt.asIntN(64, sum) !== sum) throw new Overflow("the sum does not fit into 64 bits");
+  return whole(sum);
+}
+
 function actOne(type, value, name, content) {
   const { kind, fields, inner } = type;
   if (name === "set") return content;
-  if (name === "add") return whole(BigInt(value) + BigInt(content));
+  if (name === "add") return sumOf(value, content);
   if (name === "splice") return spliced([...value], content);
   if (name === "at" || name === "stay") return withMember(value, content[0], act(fields.get(content[0]), value[content[0]], content[1]));
   if (name === "switch") {
@@ -115,19 +124,22 @@ function onKeyed(inner, value, name, content) {
   return Object.fromEntries([...entries].sort(([one], [other]) => byBytes(one, other)));
 }
 
-function endOf(depths, node) {
+/** The number behind the last node of a subtree. */
+export function endOf(depths, node) {
   let end = node + 1;
   while (end < depths.length && depths[end] > depths[node]) end += 1;
   return end;
 }
 
-function childrenOf(depths, node) {
+/** The numbers of the children of a node. */
+export function childrenOf(depths, node) {
   const found = [];
   for (let at = node + 1; at < endOf(depths, node); at += 1) if (depths[at] === depths[node] + 1) found.push(at);
   return found;
 }
 
-function nodeAt(depths, path) {
+/** The number of the node at a path. */
+export function nodeAt(depths, path) {
   return path.reduce((node, child) => childrenOf(depths, node)[child], 0);
 }
 
