@@ -23,7 +23,7 @@ fn known_sums(rt: HostRuntime) {
         let (front, back) = bytes.split_at(bytes.len() / 2);
         assert_eq!(rt; crc32c(crc32c(0, front), back), sum);
     }
-    // The sum before, the number, the payload, and the sum that another program computed of the three.
+    // The sum before, the number, the payload and the sum, as another program computed it from 12 bytes and the payload.
     let records = [
         (0, 0, b"".as_slice(), 0x2B60_B55D),
         (0, 1, b"a".as_slice(), 0xDBC8_63CD),
