@@ -112,7 +112,7 @@ def test_public_calls_are_found():
         assert libraries(folder) == ["low"]
         assert enums("low", folder) == {"Fault": ["Small", "NoMemory"]}
         take, number = public_calls("low", folder)
-        assert (take.path, take.result) == ("EmbeddedSession::take", "Result<Vec<u8>, Fault>"), take
+        assert (take.path, take.result) == ("Kept::take", "Result<Vec<u8>, Fault>"), take
         assert list(take.clauses) == ["requires", "small"] and "number < 3" in take.clauses["small"][1], take.clauses
         assert said(take.doc) == {"Small": "if and only if it is below 3.", "NoMemory": "only if memory ran out."}
         assert (number.path, number.result, list(number.clauses)) == ("number", "Option<u64>", ["ensures"]), number
@@ -152,7 +152,7 @@ def test_why_nothing_can_show_a_refusal():
         lines = read_table(path)[0]
         assert unshown(lines) == [("low Kept::take", "Small")], unshown(lines)
         head, small, none, large, why = rows_of(take, lines["low Kept::take"])
-        assert (head, small, large) == ("EmbeddedSession::take  crates/low/src/inner.rt:18", "    Small: if it is", "    Large: if it is"), (head, small, large)
+        assert (head, small, large) == ("Kept::take  crates/low/src/inner.rt:18", "    Small: if it is", "    Large: if it is"), (head, small, large)
         assert none.endswith("; shown by nothing") and why.endswith("clause small; cannot: no number is"), (none, why)
 
 
