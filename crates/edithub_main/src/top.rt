@@ -6,8 +6,7 @@ ghost use Rattle.edithub_main.specs.HubEnds.{EndsHubOrder, GivesHubUsage, HubLea
 ghost use Rattle.store_run.specs.Devices.{devices_of};
 ghost use Rattle.store_run.specs.FaultCauses.{FaultsAreCaused};
 ghost use Rattle.edithub_main.specs.HubOrders.{hub_order_named, hub_reads_source, hub_uses_disk};
-ghost use Rattle.edithub_main.specs.HubStores.{AppliesHub, ShowsHub, VerifiesHub, PacksHub};
-ghost use Rattle.edithub_main.specs.HubUndoes.{HubUndoes};
+ghost use Rattle.edithub_main.specs.HubStores.{AppliesHub, ShowsHub, VerifiesHub, PacksHub, UndoesHub};
 ghost use Rattle.edithub_main.specs.MakesHub.{MakesHub};
 ghost use Rattle.edithub_main.specs.declared.words.HubOrder.TheVariants.{Init, Apply, Show, Verify, Pack, Undo, Add};
 
@@ -61,7 +60,7 @@ pub fn edithub<S: Source, K: Sink, D: Disk>(
     ensures pack { hub_order_named words.now ≡ Some Pack
         → PacksHub K.Sink D.Disk (sink.old, disk.old) (sink.new, disk.new) result }
     ensures undo { (count : ℕ) → hub_order_named words.now ≡ Some (Undo count)
-        → HubUndoes count K.Sink D.Disk (sink.old, disk.old) (sink.new, disk.new) result }
+        → UndoesHub K.Sink D.Disk (sink.old, disk.old) (sink.new, disk.new) result count }
     ensures add { hub_order_named words.now ≡ Some Add
         → HubAdds S.Source K.Sink D.Disk (devices_of source.old sink.old disk.old)
         (devices_of source.new sink.new disk.new) result }

@@ -11,7 +11,7 @@ use Rattle.store_session.specs.Standings.{standing}
 use Rattle.store_undo.specs.Making.{AreTexts, IsMade, StoodTwice, UndoneBy, kept_before}
 use Rattle.store_undo.specs.UndoRecords.{version_due, version_then}
 use Rattle.store_undo.specs.Undoing.{changes_of, last_payloads, payloads_before, last_changes}
-use Rattle.store_undo.specs.declared.making.Making.{Making}
+use Rattle.store_run.specs.declared.undo_session.Making.{Making}
 use Rattle.store_undo.specs.declared.opening.OpenedTwice.{OpenedTwice}
 use Rattle.store_undo.proofs.Earlier.{stood_then, some_last}
 use Rattle.store_undo.proofs.VersionRecords.{undone_stands}
