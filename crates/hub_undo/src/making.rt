@@ -70,7 +70,10 @@ fn make_opened(
     let mut hub = twice.opened.hub;
     hub.replace(twice.earlier);
     let texts = texts_of(alloc, &mut hub, changes.as_slice())?;
-    Ok(Making { version: None, texts })
+    Ok(Making {
+        version: None,
+        texts,
+    })
 }
 
 // The last changes, so many as the count says. None if there are not so many payloads behind the first one, or one of

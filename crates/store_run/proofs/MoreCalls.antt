@@ -38,6 +38,6 @@ module _ {K D : Type 0} (sink : OfSink.Ghosts K) (disk : OfDisk.Ghosts D)
         now = λ c is. image_of before payload c (safe.now c is);
         moments = leaves_more disk d d' (λ c. disk.images d c ⊎ HoldsFirst before (payload ∷ []) c) (λ c. disk.images d c ⊎ IsImage before payload c) either safe.moments;
       } where
-    either : (c : List ℕ) → disk.images d c ⊎ HoldsFirst before (payload ∷ []) c → disk.images d c ⊎ IsImage before payload c
-    either c (inl p) = inl p
-    either c (inr first) = inr (image_of before payload c first)
+        either : (c : List ℕ) → disk.images d c ⊎ HoldsFirst before (payload ∷ []) c → disk.images d c ⊎ IsImage before payload c
+        either c (inl p) = inl p
+        either c (inr first) = inr (image_of before payload c first)
