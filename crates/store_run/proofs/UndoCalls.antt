@@ -20,7 +20,7 @@ use Rattle.store_run.specs.declared.stop.Stop.TheVariants.{LogFull, SourceFault,
 use Rattle.store_run.proofs.BehindCalls as behind
 use Rattle.store_run.proofs.BehindCalls.{LeavesFirst}
 use Rattle.store_run.proofs.Moments.{leaves_more}
-use Rattle.store_run.proofs.MoreCauses.{behind_cause, behind_complete}
+use Rattle.store_run.proofs.MoreCauses.{behind_complete}
 use Rattle.store_run.proofs.Openings.{opening_then}
 
 -- ---- images

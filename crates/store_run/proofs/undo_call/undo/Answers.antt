@@ -1,14 +1,14 @@
-use Rattle.std.proofs.Common.{inl, inr, ℕ, List, Err, sym, ap, subst, ◌∙◌, refl}
-use Rattle.std.specs.Prelude.{option_to_list}
+use Rattle.std.proofs.Common.{◌≡◌, inl, inr, ℕ, List, Err, sym, ap, subst, ◌∙◌, refl}
+use Rattle.std.specs.Prelude.{option_to_list, IsNone}
 use Rattle.lens_io.proofs.Increases.{increased_since}
-use Rattle.store_run.specs.UndoCall.{HoldsNow, UndoEnds, undo_refusal_of_log}
+use Rattle.store_run.specs.UndoCall.{ExitsUndo, HoldsNow, UndoEnds, undo_refusal_of_log}
 use Rattle.store_run.specs.declared.opening.OpenFault.{OpenFault}
 use Rattle.store_run.specs.declared.opening.OpenFault.TheVariants.{DiskFault}
 use Rattle.store_run.proofs.MoreCauses.{behind_cause}
 use Rattle.store_run.proofs.Openings.{same_room, unwritten_then}
 use Rattle.store_run.proofs.StoredPayloads.{images_held, reads_held}
 use Rattle.store_run.proofs.StoreOpenings.{ends_refused, fails_to_open, refused_by_log, same_fault, same_payloads, unopened_at_disk, unread_log}
-use Rattle.store_run.proofs.UndoCalls.{ends_behind, exits_of, holds_before, other_status, safe_kept, safe_of_ends, undo_complete, undoes_call, unstored_of}
+use Rattle.store_run.proofs.UndoCalls.{StandsNow, ends_behind, exits_of, holds_before, other_status, safe_kept, safe_of_ends, undo_complete, undoes_call, unstored_of}
 use Rattle.store_run.proofs.undo_call.undo.Goals as goal
 
 -- ---- the store was read
@@ -41,7 +41,7 @@ returns-in-Ok-clause-undoes g c =
           let same = same_payloads store.bytes c.in-Ok.store.payloads before read.holds store.holds in
           let here = subst (λ (x : List (List ℕ)). UndoEnds sink disk session (k, d1) (k', d') x u status) same (c.undo_payloads.ensures.ends u read.stands (ap (session.undoing count) same ∙ store.is)) in
           let ends = ends_behind sink disk session hold reads k k' d1 d' before u d status opening here in
-          let stands = λ front rest e. g.met.A.UndoneSession.version_stands count before front rest u store.is e in
+          let stands : StandsNow session before u = λ front rest e. g.met.A.UndoneSession.version_stands count before front rest u store.is e in
           let exits = exits_of sink disk session hold reads k k' d d' before u status ends in
           let cause = behind_cause sink disk before (option_to_list (session.version_due u)) (session.snapshot_text u) (session.undo_text u) k k' d d' store.bytes status store.told exits in
           record {
@@ -79,14 +79,14 @@ returns-in-Err-clause-undoes g c =
     let status = c.refuse_store.result in
     let fault = c.in-Err.fault in
     let opening = c.in-Err.ensures.opening in
-    let sure = λ e. c.in-Err.ensures.sure (ap (λ (x : OpenFault). Err x) e) in
+    let sure : fault ≡ DiskFault → IsNone (disk.room d) = λ e. c.in-Err.ensures.sure (ap (λ (x : OpenFault). Err x) e) in
     let ends = c.refuse_store.ensures.ends in
     record {
       of_store = λ store.
           let before = store.payloads in
           let u = store.undone in
-          let stands = λ front rest e. g.met.A.UndoneSession.version_stands count before front rest u store.is e in
-          let exits = inr (opening.unwritten, fails_to_open sink disk k k' d d1 status fault (unread_log store.bytes before store.holds fault (c.in-Err.ensures.read store.bytes store.told)) sure ends) in
+          let stands : StandsNow session before u = λ front rest e. g.met.A.UndoneSession.version_stands count before front rest u store.is e in
+          let exits : ExitsUndo sink disk session (k, d) (k', d1) before u status = inr (opening.unwritten, fails_to_open sink disk k k' d d1 status fault (unread_log store.bytes before store.holds fault (c.in-Err.ensures.read store.bytes store.told)) sure ends) in
           let cause = behind_cause sink disk before (option_to_list (session.version_due u)) (session.snapshot_text u) (session.undo_text u) k k' d d1 store.bytes status store.told exits in
           record {
             continues = λ done. absurd (c.refuse_store.ensures.unfinished (inl done));
