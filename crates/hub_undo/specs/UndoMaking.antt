@@ -18,7 +18,7 @@ use Rattle.hub_records.specs.declared.change.HubChange.{HubChange}
 use Rattle.store_run.specs.Making as making
 use Rattle.store_run.specs.declared.undo_session.Making.{Making}
 use Rattle.hub_undo.specs.HubUndone.{HubBringsBack, hub_undone}
-use Rattle.hub_undo.specs.HubUndoing.{HubUndoing, HubTakesBack, edits_of_all, hub_undo_snapshot_text, hub_undo_text}
+use Rattle.hub_undo.specs.HubUndoing.{HubTakesBack, edits_of_all, hub_undo_snapshot_text, hub_undo_text}
 use Rattle.hub_undo.specs.HubUndoing.{hub_undoing}
 use Rattle.hub_undo.specs.HubUndoing.{words_text}
 use Rattle.hub_undo.specs.declared.making.OpenedTwice.{OpenedTwice}

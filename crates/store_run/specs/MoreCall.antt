@@ -5,10 +5,9 @@ use Rattle.lens_io.specs.Calls.{Gave}
 use Rattle.lens_io.specs.DiskRuns.{LeavesOnly}
 use Rattle.lens_io.specs.declared.disk.Disk as OfDisk
 use Rattle.lens_io.specs.declared.sink.Sink as OfSink
-use Rattle.gate_log.specs.LogOnDisk.{LogState, HoldsPayloads}
-use Rattle.store_run.specs.Effects.{StandsOn}
+use Rattle.gate_log.specs.LogOnDisk.{HoldsPayloads}
 use Rattle.store_run.specs.Refusals.{IsUnwritten, IsOpening, FailsUnopened}
-use Rattle.store_run.specs.StoreEnds.{StoreEnds, StoresBehind}
+use Rattle.store_run.specs.StoreEnds.{StoresBehind}
 use Rattle.store_run.specs.declared.session.StoredSession as OfSession
 use Rattle.command_ends.specs.declared.status.Status.{Status}
 

@@ -8,7 +8,7 @@ use Rattle.lens_io.specs.declared.disk.Disk as OfDisk
 use Rattle.lens_io.specs.declared.sink.Sink as OfSink
 use Rattle.gate_log.specs.LogBytes.{LogContent, payloads, not_a_log, bad_record, log_of}
 use Rattle.gate_log.specs.LogOnDisk.{HoldsPayloads}
-use Rattle.store_run.specs.MoreCall.{EndsBehind, EndsUnwritten, ExitsBehind}
+use Rattle.store_run.specs.MoreCall.{EndsUnwritten, ExitsBehind}
 use Rattle.store_run.specs.MoreCauses.{IsBehindCauseInRoom}
 use Rattle.store_run.specs.Refusals.{IsOpening}
 use Rattle.store_run.specs.Rooms.{HasNoRoom}

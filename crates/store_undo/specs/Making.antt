@@ -1,6 +1,6 @@
 -- For the helpers of `undo`: what is opened and what is made before anything is stored. Read it from the end:
 -- `fault_of`, `IsMade`, `AreTexts`, `UndoneBy`, then `StoodTwice`.
-use Rattle.std.specs.Prelude.{◌≡◌, ℕ, ◌-◌, List, ◌++◌, length, take, codes, nat_lt, if◌then◌else◌, Option, Some, Ok}
+use Rattle.std.specs.Prelude.{◌≡◌, ℕ, ◌-◌, List, ◌++◌, length, take, codes, nat_lt, if◌then◌else◌, Some, Ok}
 use Rattle.edit_json.specs.WordJson.{tree_of_word}
 use Rattle.answer_text.specs.Lines.{tree_line}
 use Rattle.run_answers.specs.Answers.{state_lines}
@@ -16,13 +16,12 @@ use Rattle.store_session.specs.Stands.{Standing, stands}
 use Rattle.store_session.specs.Standings.{standing}
 use Rattle.store_session.specs.StoredStates.{HasSnapshot, state_with}
 use Rattle.store_session.specs.StoredStates as states
-use Rattle.store_run.specs.declared.refusals.StoreRefusal.{StoreRefusal}
 use Rattle.store_run.specs.declared.refusals.StoreRefusal.TheVariants.{BadRecord, NotConsistent}
 use Rattle.store_run.specs.Making as making
 use Rattle.store_run.specs.declared.undo_session.Making.{Making}
 use Rattle.store_run.specs.declared.undo_session.MakingFault.{MakingFault}
 use Rattle.store_run.specs.declared.undo_session.MakingFault.TheVariants.{Refused, NoMemory}
-use Rattle.store_undo.specs.Undoing.{Undoing, undoing}
+use Rattle.store_undo.specs.Undoing.{undoing}
 use Rattle.store_undo.specs.UndoRecords.{undo_text, version_due, undo_snapshot_text, TakesBack}
 use Rattle.store_undo.specs.declared.opening.OpenedTwice.{OpenedTwice}
 use Rattle.store_run.specs.declared.storing.MoreText.{MoreText}
