@@ -56,7 +56,8 @@ pub record AreTexts (l : FormTree) (t : TripleTree) (words : BothTrees) (made : 
 -- what is made is what undoing the last changes of these payloads stores and writes
 abbrev pub IsMade : ℕ → List (List ℕ) → Making → Type 0
 IsMade count held made =
-    making.IsMade (undoing count held) (λ u. version_due u.now.version) undo_snapshot_text undo_text (TakesBack held) made
+    making.IsMade (undoing count held) (λ u. version_due u.now.version) undo_snapshot_text undo_text (TakesBack held)
+    made
 
 -- the fault of a reopening in these words
 abbrev pub fault_of : RecordFault → MakingFault
