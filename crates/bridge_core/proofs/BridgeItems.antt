@@ -1,12 +1,12 @@
 -- The bridges of fields, as the code holds them.
 use Rattle.std.proofs.Common.{◌≡◌, ℕ, zero, suc, ◌+◌, ◌<◌, ◌≤◌, List, [], ◌∷◌, ◌++◌, length, map, set, get_or, replicate, refl, sym, ap, ◌∙◌, arith, rules}
-use Rattle.std.proofs.lemmas.List.{map-set, length-map}
+use Rattle.std.proofs.lemmas.List.{map-set, map-append, replicate_more}
 use Rattle.doc_values.specs.Documents.{DocTrees, no_docs, more_docs, doc_list}
-use Rattle.bridge_core.specs.declared.bridge.Bridge.{Bridge}
+use Rattle.bridge_core.specs.declared.bridge.Bridge.{Bridge, the_lemmas as bridge_lemmas}
 use Rattle.bridge_core.specs.declared.bridge.Bridge.TheVariants.{Same}
 use Rattle.bridge_core.specs.declared.bridge.Bridges.{Bridges, out-Bridges, the_lemmas as bridges_lemmas}
-use Rattle.bridge_core.specs.Bridges.{BridgeTree, same, BridgeTrees, bridges_of, bridge_list, bridge_at, put_bridge_at, same_each, bridge_tree, bridges_tree}
-use Rattle.bridge_core.proofs.BridgeLists.{bridges-of-list, list-of-bridges}
+use Rattle.bridge_core.specs.Bridges.{BridgeTree, same, BridgeTrees, more_bridges, bridges_of, bridge_list, bridge_at, put_bridge_at, same_each, bridge_tree, bridges_tree}
+use Rattle.bridge_core.proofs.BridgeLists.{list-of-bridges}
 
 pub bridges_tree-out : (bs : Bridges) → bridges_tree bs ≡ bridges_of (map bridge_tree (out-Bridges bs).items.items)
 bridges_tree-out bs = search (rules, bridges_lemmas)
@@ -42,4 +42,23 @@ without-place bs i b h = ap (λ (cs : List Bridge). bridges_of (map bridge_tree 
 
 pub ruleset place_rules = (bridges_tree-out, at-place, past-place, with-place, without-place)
 
-pub ruleset same_rules = (bridges_tree-out)
+-- ---- for each document the bridge to itself
+
+bridge_tree-Same : bridge_tree Same ≡ same
+bridge_tree-Same = search (rules, bridge_lemmas)
+
+pub same-more : (bs cs : List Bridge) (n : ℕ) → map bridge_tree bs ≡ replicate n same → cs ≡ bs ++ Same ∷ [] → map bridge_tree cs ≡ replicate (n + 1) same
+same-more bs cs n h made =
+    ap (map bridge_tree) made
+    ∙ (map-append bridge_tree bs (Same ∷ [])
+    ∙ (ap (λ (x : BridgeTree). map bridge_tree bs ++ x ∷ []) bridge_tree-Same
+    ∙ (ap (λ (l : List BridgeTree). l ++ same ∷ []) h ∙ replicate_more n same)))
+
+same-all : (ds : DocTrees) → bridges_of (replicate (length (doc_list ds)) same) ≡ same_each ds
+same-all no_docs = refl
+same-all (more_docs d ds) = ap (more_bridges same) (same-all ds)
+
+pub same-done : (bs : List Bridge) (n : ℕ) (ds : DocTrees) → map bridge_tree bs ≡ replicate n same → n ≡ length (doc_list ds) → bridges_of (map bridge_tree bs) ≡ same_each ds
+same-done bs n ds h all = ap bridges_of (h ∙ ap (λ (k : ℕ). replicate k same) all) ∙ same-all ds
+
+pub ruleset same_rules = (bridges_tree-out, same-more, same-done)

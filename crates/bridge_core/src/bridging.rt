@@ -3,6 +3,7 @@
 //! A word is walked as its action does: each primitive is applied to a copy, which shares its contents, and gives the
 //! value that the next one meets.
 ghost use Rattle.std.specs.Prelude.{◌≡◌, ◌<◌, Ok, IfOk, MatchResult, true, length};
+ghost use Rattle.std.specs.Str.{is_utf8};
 ghost use Rattle.doc_values.specs.Documents.{doc_tree, docs_tree, doc_list, rec, alt};
 ghost use Rattle.doc_values.specs.Types.{ty_tree, fields_tree, is_well_formed, ty_rec, ty_alt};
 ghost use Rattle.doc_values.specs.Typing.{has};
@@ -16,7 +17,7 @@ ghost use Rattle.bridge_core.specs.Bridged.{bridge_switch, parts_of, arm_of};
 ghost use Rattle.bridge_core.specs.Laws.{SpansValue};
 
 use crate::bridge::{Bridge, Bridges};
-use crate::laws::a_bridge_spans;
+use crate::laws::{a_bridge_spans, a_text_is_utf8};
 use doc_values::{Doc, Docs, Ty};
 use edit_module::action::{self, field_of, tag_of};
 use edit_module::word::{Primitive, Word};
@@ -42,7 +43,7 @@ struct Made {
 ///   [`act`](edit_module::act) has.
 /// - `spans`: the bridge leads from the document to the value of the word.
 #[tactic(auto, using(crate::proofs::Walks::spans_rules))]
-pub fn bridge(alloc: Global, ty: &Ty, word: &Word, doc: &Doc) -> Result<Bridge, ActFault>
+pub fn bridge_of(alloc: Global, ty: &Ty, word: &Word, doc: &Doc) -> Result<Bridge, ActFault>
     requires well_formed { is_well_formed (ty_tree ty.now) ≡ true }
     requires typed { has (ty_tree ty.now) (doc_tree doc.now) ≡ true }
     ensures exact { MatchResult result
@@ -62,6 +63,7 @@ pub fn bridge(alloc: Global, ty: &Ty, word: &Word, doc: &Doc) -> Result<Bridge, 
 
 // The value of a document after the primitives of a word, and the bridge to it.
 #[cycle(walk)]
+#[tactic(auto, using(crate::proofs::Walks::walk_rules))]
 fn walk(alloc: Global, ty: &Ty, word: &Word, doc: &Doc, before: &Bridge) -> Result<Made, ActFault>
     requires well_formed { is_well_formed (ty_tree ty.now) ≡ true }
     requires typed { has (ty_tree ty.now) (doc_tree doc.now) ≡ true }
@@ -244,7 +246,6 @@ fn spliced(
 }
 
 // The bridge after a splice of the far text.
-#[tactic(auto, using(crate::proofs::Walks::text_rules))]
 fn after_splice(
     alloc: Global,
     old: &Str,
@@ -257,6 +258,7 @@ fn after_splice(
 {
     match before {
         Bridge::Same => {
+            a_text_is_utf8(old.as_str());
             let runs = TextBridge::between_the_same(alloc);
             with_splice(alloc, &runs, from, count, with)
         }
@@ -266,7 +268,6 @@ fn after_splice(
 }
 
 // The bridge of a text with the runs after a splice of the far text.
-#[tactic(auto, using(crate::proofs::Walks::text_rules))]
 fn with_splice(
     alloc: Global,
     runs: &TextBridge,
@@ -274,8 +275,9 @@ fn with_splice(
     count: u64,
     with: &Str,
 ) -> Result<Bridge, AllocError>
-    ensures { IfOk result (λ b. bridge_tree b ≡ with_splice true runs.now from count with.now) }
+    ensures { IfOk result (λ b. bridge_tree b ≡ with_splice (is_utf8 with.now) runs.now from count with.now) }
 {
+    a_text_is_utf8(with.as_str());
     let next = runs.after_splice(alloc, from, count, with.character_count() as u64)?;
     Ok(Bridge::Text(Rc::new(alloc, next)?))
 }

@@ -17,7 +17,7 @@ ghost use Rattle.bridge_core.specs.Laws.{BeginsAt, LeadsTo};
 
 use crate::bridge::{Bridge, Bridges};
 use crate::fault::CarryFault;
-use crate::laws::{a_carried_word_acts, only_what_is_gone_is_refused};
+use crate::laws::{a_carried_word_acts, a_text_is_utf8, only_what_is_gone_is_refused};
 use doc_values::Ty;
 use edit_module::Cause;
 use edit_module::word::{Primitive, Word};
@@ -194,7 +194,6 @@ fn on_text(
 }
 
 // A splice, as splices of the far text.
-#[tactic(auto, using(crate::proofs::Walks::text_rules))]
 fn spliced(
     alloc: Global,
     runs: &TextBridge,
@@ -204,6 +203,7 @@ fn spliced(
 ) -> Result<CarriedWord, AllocError>
     ensures { IfOk result (λ it. carry_splice (is_utf8 text.now) runs.now from count text.now ≡ Ok (carried_tree it)) }
 {
+    a_text_is_utf8(text.as_str());
     let text = text.twin(alloc)?;
     let splice = Splice {
         at: from,
@@ -220,7 +220,6 @@ fn spliced(
 }
 
 // The word of splices, one after another.
-#[tactic(auto, using(crate::proofs::Walks::splice_rules))]
 fn splices(alloc: Global, pieces: Vec<Splice>) -> Result<Word, AllocError>
     ensures { IfOk result (λ w. word_tree w ≡ splices pieces.items) }
 {

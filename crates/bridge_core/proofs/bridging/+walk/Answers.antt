@@ -45,14 +45,14 @@ walk-returns-clause-bridge t c =
     let ps = c.as_slice-primitives.result.now in
     let past : length ps ≤ l.i = omega (arith, c.loop-i-test.false) in
     sym (bridge-done ty ps l.i (doc_tree l.current.value) (bridge_tree l.current.bridge) past)
-    ∙ (l.invariant.over ∙ ap (λ (w : WordTree). bridge ty w (doc_tree c.args.doc.now) (bridge_tree c.args.bridge.now)) c.as_slice-primitives.ensures)
+    ∙ (l.invariant.over ∙ ap (λ (w : WordTree). bridge ty w (doc_tree c.args.doc.now) (bridge_tree c.args.before.now)) c.as_slice-primitives.ensures)
 
 pub walk-loop-i-init : goal.walk-loop-i-init
 walk-loop-i-init t c =
     let ty = ty_tree c.args.ty.now in
     let w = word_of (map primitive_tree c.as_slice-primitives.result.now) in
     let same : doc_tree c.in_ok-current.current.value ≡ doc_tree c.args.doc.now = c.in_ok-current.ensures.value in
-    let over : bridge_tree c.in_ok-current.current.bridge ≡ bridge_tree c.args.bridge.now = c.in_ok-current.ensures.bridge in
+    let over : bridge_tree c.in_ok-current.current.bridge ≡ bridge_tree c.args.before.now = c.in_ok-current.ensures.bridge in
     record {
       typed = ap (λ (d : DocTree). has ty d) same ∙ c.requires.typed;
       left = later-none (act ty w (doc_tree c.in_ok-current.current.value)) ∙ ap (λ (d : DocTree). act ty w d) same;

@@ -35,5 +35,5 @@ invariant-walk-loop-i l = record {
       ≡ act (ty_tree l.ty) (word_of (map primitive_tree l.primitives)) (doc_tree l.doc);
   over :
       bridge (ty_tree l.ty) (word_of (map primitive_tree (drop l.i l.primitives))) (doc_tree l.current.value) (bridge_tree l.current.bridge)
-      ≡ bridge (ty_tree l.ty) (word_of (map primitive_tree l.primitives)) (doc_tree l.doc) (bridge_tree l.bridge);
+      ≡ bridge (ty_tree l.ty) (word_of (map primitive_tree l.primitives)) (doc_tree l.doc) (bridge_tree l.before);
 }
