@@ -79,7 +79,7 @@ impl Bridges {
         ensures { IfOk result (λ bs. bridges_tree bs ≡ same_each (docs_tree docs.now)) }
     {
         let mut items = Vec::new(alloc);
-        for k in 0..docs.len() {
+        for _ in 0..docs.len() {
             items.push(Bridge::Same)?;
         }
         Ok(Bridges { items })
