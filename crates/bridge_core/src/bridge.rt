@@ -1,13 +1,11 @@
 //! A bridge between two documents of a type: it begins with one document twice, and both may be edited.
 ghost use Rattle.std.specs.Prelude.{◌≡◌, IfOk, map};
-ghost use Rattle.doc_values.specs.Documents.{docs_tree};
-ghost use Rattle.bridge_core.specs.Bridges.{bridge_tree, bridges_tree, bridges_of, arm, no_bridges, same_each};
+ghost use Rattle.bridge_core.specs.Bridges.{bridge_tree, bridges_tree, bridges_of, arm};
 ghost use Rattle.bridge_core.specs.Bridges.{bridge_at, put_bridge_at};
 
-use doc_values::Docs;
+use bridge_texts::TextBridge;
 use std::alloc::{AllocError, Global};
 use std::rc::Rc;
-use bridge_texts::TextBridge;
 use texts::{Name, Twin};
 
 /// How a document, the far one, differs from another, the near one, by the edits that were made of it.
@@ -55,34 +53,6 @@ impl Bridges {
         ensures { bridges_of (map bridge_tree result.now) ≡ bridges_tree self.now }
     {
         self.items.as_slice()
-    }
-
-    // No bridges. Does not allocate.
-    pub(crate) fn empty(alloc: Global) -> Bridges
-        ensures { bridges_tree result ≡ no_bridges }
-    {
-        Bridges {
-            items: Vec::new(alloc),
-        }
-    }
-
-    // The same bridges.
-    pub(crate) fn copy(&self, alloc: Global) -> Result<Bridges, AllocError>
-        ensures { IfOk result (λ bs. bridges_tree bs ≡ bridges_tree self.now) }
-    {
-        copy_each(alloc, self)
-    }
-
-    // For each document the bridge to itself.
-    #[tactic(auto, using(crate::proofs::BridgeItems::same_rules))]
-    pub(crate) fn same_each(alloc: Global, docs: &Docs) -> Result<Bridges, AllocError>
-        ensures { IfOk result (λ bs. bridges_tree bs ≡ same_each (docs_tree docs.now)) }
-    {
-        let mut items = Vec::new(alloc);
-        for k in 0..docs.len() {
-            items.push(Bridge::Same)?;
-        }
-        Ok(Bridges { items })
     }
 
     // The bridge of the field at a place. A field that is not there has the same content in both documents.

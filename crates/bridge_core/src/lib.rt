@@ -4,13 +4,11 @@
 #![tactic(auto)]
 
 mod bridge;
-mod bridging;
 mod carrying;
 mod fault;
 mod laws;
 
 pub use crate::bridge::{Bridge, Bridges};
-pub use crate::bridging::bridge_of;
 pub use crate::carrying::{CarriedWord, carry};
 pub use crate::fault::CarryFault;
 pub use crate::laws::{a_bridge_spans, a_carried_word_acts, only_what_is_gone_is_refused};

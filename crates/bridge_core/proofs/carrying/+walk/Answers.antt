@@ -1,12 +1,11 @@
-use Rattle.std.proofs.Common.{◌≡◌, ◌<◌, ◌≤◌, length, map, drop, sym, ap, ◌∙◌, arith, subst, Err}
+use Rattle.std.proofs.Common.{◌≡◌, ◌<◌, ◌≤◌, length, map, drop, sym, ap, ◌∙◌, arith}
 use Rattle.doc_values.specs.Types.{ty_tree}
 use Rattle.edit_module.specs.Depths.{word_depth}
 use Rattle.edit_module.specs.Views.{primitive_tree, word_tree}
-use Rattle.edit_module.specs.Words.{WordTree, word_of, joined}
+use Rattle.edit_module.specs.Words.{WordTree, word_of}
 use Rattle.bridge_core.specs.Bridges.{BridgeTree, bridge_tree}
-use Rattle.bridge_core.specs.Carried.{Answer, in_front, carry}
-use Rattle.bridge_core.specs.Refusals.{carried_tree, IsNotCarried}
-use Rattle.bridge_core.proofs.Walks.{front-none, carry-next, carry-stop, carry-done, part-depth}
+use Rattle.bridge_core.specs.Carried.{in_front, carry}
+use Rattle.bridge_core.proofs.Walks.{front-none, carry-next, carry-refused, carry-done, part-depth}
 use Rattle.bridge_core.proofs.carrying.+walk.Goals as goal
 
 pub walk-loop-i-init : goal.walk-loop-i-init
@@ -35,6 +34,16 @@ walk-returns t c =
     let past : length ps ≤ l.i = omega (arith, c.loop-i-test.false) in
     ap (λ (w : WordTree). carry ty (bridge_tree c.args.bridge.now) w) (sym c.as_slice-primitives.ensures)
     ∙ (sym l.invariant ∙ carry-done ty ps l.i (bridge_tree l.current.bridge) (word_tree l.current.word) past)
+
+pub walk-returns-in-Err : goal.walk-returns-in-Err
+walk-returns-in-Err t c =
+    let l = c.loop-i in
+    let ty = ty_tree c.args.ty.now in
+    let ps = c.as_slice-primitives.result.now in
+    let p = c.index-primitives-i.result in
+    let within : l.i < length ps = omega (arith, c.loop-i-test.true) in
+    carry-refused ty ps l.i p (bridge_tree l.current.bridge) (word_tree l.current.word) (carry ty (bridge_tree c.args.bridge.now) (word_tree c.args.word.now)) c.in-Err.fault within c.index-primitives-i.is
+    (l.invariant ∙ ap (λ (w : WordTree). carry ty (bridge_tree c.args.bridge.now) w) c.as_slice-primitives.ensures) c.in-Err.ensures
 
 pub walk-step-requires : goal.walk-step-requires
 walk-step-requires t c =
