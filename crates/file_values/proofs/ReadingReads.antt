@@ -56,14 +56,14 @@ ok_more s (Err m) more o p h k = ap (option_and_then (λ e. option_map (more_doc
 
 -- ---- records
 
-known_stranger : (ns : List (List ℕ)) (ms : Members) (r : Result DocTree Misfit) → result_ok (unless_stranger (stranger ns ms) r) ≡ cond (all_known ns ms) (result_ok r) None
-known_stranger ns no_members r = refl
-known_stranger ns (member k j ms) r = known_step (has_name k ns) k (stranger ns ms) (all_known ns ms) r (known_stranger ns ms r)
+known_stranger : (ns : List (List ℕ)) (ms all : Members) (r : Members → Result DocTrees Misfit) → result_ok (map_ok rec (and_then r (unless_stranger (stranger ns ms) all))) ≡ cond (all_known ns ms) (result_ok (map_ok rec (r all))) None
+known_stranger ns no_members all r = refl
+known_stranger ns (member k j ms) all r = known_step (has_name k ns) k (stranger ns ms) (all_known ns ms) all r (known_stranger ns ms all r)
   where
-    known_step : (b : Bool) (k : List ℕ) (o : Option (List ℕ)) (all : Bool) (r : Result DocTree Misfit) → result_ok (unless_stranger o r) ≡ cond all (result_ok r) None
-        → result_ok (unless_stranger (cond b o (Some k)) r) ≡ cond (b && all) (result_ok r) None
-    known_step true k o all r h = h
-    known_step false k o all r h = refl
+    known_step : (b : Bool) (k : List ℕ) (o : Option (List ℕ)) (known : Bool) (all : Members) (r : Members → Result DocTrees Misfit) → result_ok (map_ok rec (and_then r (unless_stranger o all))) ≡ cond known (result_ok (map_ok rec (r all))) None
+        → result_ok (map_ok rec (and_then r (unless_stranger (cond b o (Some k)) all))) ≡ cond (b && known) (result_ok (map_ok rec (r all))) None
+    known_step true k o known all r h = h
+    known_step false k o known all r h = refl
 
 map_cond : (b : Bool) (o : Option DocTrees) → cond b (option_map rec o) None ≡ option_map rec (cond b o None)
 map_cond true o = refl
@@ -171,7 +171,7 @@ mutual
   agrees (as_number i) s k = refl
   agrees (as_object fs) (Some (object ms)) k =
       let named = ok_map rec (fields_reading fs ms) (named_fields fs ms) (fields_agree fs ms (right (is_rising (form_names fs)) (are_fit fs) k)) in
-      known_stranger (form_names fs) ms (map_ok rec (fields_reading fs ms))
+      known_stranger (form_names fs) ms ms (fields_reading fs)
       ∙ ap (λ o. cond (all_known (form_names fs) ms) o None) named
       ∙ map_cond (all_known (form_names fs) ms) (named_fields fs ms)
       ∙ ap (option_map rec) (sym (fields_by_name fs ms (left (is_rising (form_names fs)) (are_fit fs) k)))

@@ -48,10 +48,13 @@ abbrev pub and_then : {A B : Type 0} → (A → Result B Misfit) → Result A Mi
 and_then f (Ok a) = f a
 and_then f (Err m) = Err m
 
--- the outcome of a part, seen from one step further out
+-- the misfit of a part, and its outcome, seen from one step further out
+abbrev pub outer : FileStep → Misfit → Misfit
+outer s m = (s ∷ m.0, m.1)
+
 abbrev pub inside : {A : Type 0} → FileStep → Result A Misfit → Result A Misfit
 inside s (Ok a) = Ok a
-inside s (Err m) = Err (s ∷ m.0, m.1)
+inside s (Err m) = Err (outer s m)
 
 -- ---- what a slot has
 
@@ -87,9 +90,14 @@ abbrev pub stranger : List (List ℕ) → Members → Option (List ℕ)
 stranger ns no_members = None
 stranger ns (member k j ms) = if has_name k ns then stranger ns ms else Some k
 
-abbrev pub unless_stranger : {A : Type 0} → Option (List ℕ) → Result A Misfit → Result A Misfit
-unless_stranger None outcome = outcome
-unless_stranger (Some k) outcome = inside (Member k) (not_so NoField)
+-- the members, unless one of them is a stranger
+abbrev pub unless_stranger : Option (List ℕ) → Members → Result Members Misfit
+unless_stranger None ms = Ok ms
+unless_stranger (Some k) ms = inside (Member k) (not_so NoField)
+
+-- the members of an object, if each has one of the names
+abbrev pub known_members : List (List ℕ) → Option Json → Result Members Misfit
+known_members ns s = and_then (λ ms. unless_stranger (stranger ns ms) ms) (members_in s)
 
 -- every member has the name
 abbrev pub all_named : List ℕ → Members → Bool
@@ -141,12 +149,10 @@ abbrev mutual
   reading (as_text i) s = map_ok text (string_in s)
   reading (as_enum ms i) s = and_then (pick_in ms) (string_in s)
   reading (as_number i) s = and_then number_text (number_in s)
-  reading (as_object fs) s =
-      and_then (λ ms. unless_stranger (stranger (form_names fs) ms) (map_ok rec (fields_reading fs ms))) (members_in s)
+  reading (as_object fs) s = map_ok rec (and_then (fields_reading fs) (known_members (form_names fs) s))
   reading (as_tagged fs) s = and_then (λ ms. one_reading (tag_reading fs) (one_member ms)) (members_in s)
   reading (as_bare fs) s = bare_reading fs s
-  reading (as_items f) s =
-      and_then (λ js. map_ok listed_doc (items_reading (λ j. reading f (Some j)) 0 js)) (items_in s)
+  reading (as_items f) s = map_ok listed_doc (and_then (items_reading (λ j. reading f (Some j)) 0) (items_in s))
   reading (as_map f) s = and_then (map_reading (λ j. reading f (Some j))) (members_in s)
 
   pub fields_reading : FormFields → Members → Result DocTrees Misfit
@@ -175,11 +181,10 @@ abbrev pub fault_view : ReadFault → Option Misfit
 fault_view (faults.Misfit m) = Some (misfit_view m)
 fault_view faults.NoMemory = None
 
--- a fault of a part, and the same seen from one step further out, or running out of memory
+-- the fault of a part, seen from one step further out, or running out of memory
 abbrev pub Deepens : FileStep → ReadFault → ReadFault → Type 0
-Deepens s (faults.Misfit m) (faults.Misfit n) = misfit_view n ≡ (s ∷ m.place.items, m.cause)
-Deepens s faults.NoMemory (faults.Misfit n) = ⊥
 Deepens s fault faults.NoMemory = Unit {0}
+Deepens s fault (faults.Misfit m) = option_map (outer s) (fault_view fault) ≡ Some (misfit_view m)
 
 -- a misfit is that of the file; running out of memory says nothing
 abbrev pub Fails : {Y : Type 0} → Option Misfit → Result Y Misfit → Type 0

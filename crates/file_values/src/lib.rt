@@ -2,6 +2,8 @@
 #![tactic(auto)]
 
 mod fault;
+pub mod laws;
+mod members;
 mod misfit;
 mod read;
 mod slots;

@@ -1,31 +1,33 @@
 //! Reading a document from the tree of a file.
 
-ghost use Rattle.std.specs.Prelude.{◌≡◌, ℕ, ℤ, List, true, Result, Ok, Some, IfOk, option_map};
+ghost use Rattle.std.specs.Prelude.{◌≡◌, ℕ, ℤ, List, true, Result, Ok, Some, IfOk};
 ghost use Rattle.json.specs.Strict.{keys};
-ghost use Rattle.texts.specs.Keys.{is_rising, has_name};
+ghost use Rattle.texts.specs.Keys.{is_rising};
 ghost use Rattle.hold_shapes.specs.declared.shape.Shape.TheVariants.{Keyed as KeyedOf};
 ghost use Rattle.doc_values.specs.Documents.{DocTree, alt, hold, doc_tree, docs_tree};
 ghost use Rattle.file_trees.specs.FileTrees.{file_tree, items_view, members_view};
-ghost use Rattle.file_forms.specs.Forms.{as_literal, as_int, as_text, as_enum, as_number, as_object, as_tagged};
-ghost use Rattle.file_forms.specs.Forms.{as_bare, as_items, as_map, file_form_tree, forms_view, form_names};
-ghost use Rattle.file_forms.specs.Orders.{sorted, first_named, by_name};
+ghost use Rattle.file_forms.specs.Forms.{as_literal, as_int, as_text, as_enum, as_number, as_bare};
+ghost use Rattle.file_forms.specs.Forms.{file_form_tree, forms_view};
+ghost use Rattle.file_forms.specs.Orders.{sorted};
 ghost use Rattle.file_forms.specs.Fitting.{is_fit};
-ghost use Rattle.file_forms.specs.FileValues.{int_text, read, write};
-ghost use Rattle.file_values.specs.Reading.{Misfit, Reads, slot_of, inside, map_ok, stranger, one_member, reading};
+ghost use Rattle.file_forms.specs.FileValues.{int_text, listed_doc, read, write};
+ghost use Rattle.file_values.specs.Reading.{Misfit, Reads, slot_of, inside, map_ok, one_member, one_reading};
+ghost use Rattle.file_values.specs.Reading.{items_reading, map_reading, reading, fields_reading, tag_reading};
 ghost use Rattle.file_values.specs.Reading.{lent_members};
 ghost use Rattle.file_values.specs.declared.misfit.FileStep.TheVariants.{Member, Item};
 
+use crate::members::{by_name, first_named, known_members, names_of, one_member};
 use crate::misfit::{ReadCause, ReadFault};
 use crate::slots::{is_literal, items_in, members_in, number_in, string_in, takes, truth_in};
 use doc_values::{Doc, Docs, has_text};
 use file_forms::{FileForm, Literal};
 use file_trees::FileTree;
-use hold_shapes::{KeyedShape, ListShape, Shape, SharedList};
+use hold_shapes::{KeyedShape, ListShape, Shape};
 use itoa::Buffer;
 use json::is_number;
-use std::alloc::{AllocError, Global};
+use std::alloc::Global;
 use std::collections::BTreeMap;
-use texts::{Name, Names, Str, Twin};
+use texts::{Name, Names, Twin};
 
 /// The document that a file is.
 ///
@@ -55,11 +57,14 @@ fn read(alloc: Global, form: &FileForm, slot: Option<&FileTree>) -> Result<Doc, 
         FileForm::Text(_) => read_text(alloc, slot),
         FileForm::Enum(members, _) => read_pick(alloc, members, slot),
         FileForm::Number(_) => read_number(alloc, slot),
-        FileForm::Object(fields) => read_object(alloc, fields, slot),
-        FileForm::Tagged(tags) => read_tagged(alloc, tags, slot),
+        FileForm::Object(fields) => {
+            let members = known_members(alloc, fields.as_slice(), slot)?;
+            Ok(Doc::Rec(read_fields(alloc, fields, members)?))
+        }
+        FileForm::Tagged(tags) => read_tagged(alloc, tags, members_in(alloc, slot)?),
         FileForm::Bare(tags) => read_bare(alloc, tags, slot),
-        FileForm::Items(inner) => read_items(alloc, inner, slot),
-        FileForm::Map(inner) => read_map(alloc, inner, slot),
+        FileForm::Items(inner) => Ok(listed(read_items(alloc, inner, items_in(alloc, slot)?)?)),
+        FileForm::Map(inner) => read_map(alloc, inner, members_in(alloc, slot)?),
     }
 }
 
@@ -126,62 +131,6 @@ fn read_number(alloc: Global, slot: Option<&FileTree>) -> Result<Doc, ReadFault>
     Ok(Doc::Text(text.twin(alloc)?))
 }
 
-// A record, from members that are all its fields'.
-#[cycle(read)]
-fn read_object(
-    alloc: Global,
-    fields: &Vec<(Name, FileForm)>,
-    slot: Option<&FileTree>,
-) -> Result<Doc, ReadFault>
-    ensures { Reads doc_tree result (reading (as_object (forms_view fields.now.items)) (slot_of slot.entry)) }
-{
-    let members = members_in(alloc, slot)?;
-    if let Some(name) = stranger(fields.as_slice(), members) {
-        return Err(ReadFault::here(alloc, ReadCause::NoField).in_member(alloc, name.as_str()));
-    }
-    let mut docs = Vec::with_capacity(alloc, fields.len())?;
-    for field in fields {
-        let content = read(alloc, &field.1, first_named(&field.0, members));
-        docs.push(in_member(alloc, content, field.0.as_str())?)?;
-    }
-    Ok(Doc::Rec(Docs::from_vec(alloc, docs)?))
-}
-
-// The first member that no field has.
-fn stranger<'a>(fields: &[(Name, FileForm)], members: &'a [(Name, FileTree)]) -> Option<&'a Name>
-    ensures { option_map (λ n. n.now) result ≡ stranger (form_names (forms_view fields.now)) (members_view members.now) }
-{
-    for member in members {
-        if !has_field(fields, &member.0) {
-            return Some(&member.0);
-        }
-    }
-    None
-}
-
-fn has_field(fields: &[(Name, FileForm)], name: &Name) -> bool
-    ensures { result ≡ has_name name.now (form_names (forms_view fields.now)) }
-{
-    for field in fields {
-        if name.is_same(&field.0) {
-            return true;
-        }
-    }
-    false
-}
-
-// The content of the first member with a name.
-fn first_named<'a>(name: &Name, members: &'a [(Name, FileTree)]) -> Option<&'a FileTree>
-    ensures { slot_of result ≡ first_named name.now (members_view members.now) }
-{
-    for member in members {
-        if name.is_same(&member.0) {
-            return Some(&member.1);
-        }
-    }
-    None
-}
-
 // What the content of a member is, seen from the object.
 fn in_member(alloc: Global, content: Result<Doc, ReadFault>, name: &str) -> Result<Doc, ReadFault>
     ensures { (outcome : Result DocTree Misfit) → Reads doc_tree content outcome
@@ -204,16 +153,34 @@ fn in_item(content: Result<Doc, ReadFault>, place: u64) -> Result<Doc, ReadFault
     }
 }
 
-// Alternatives, from an object with the tag as its one member.
+// The contents of a record, a field after another.
+#[cycle(read)]
+fn read_fields(
+    alloc: Global,
+    fields: &Vec<(Name, FileForm)>,
+    members: &[(Name, FileTree)],
+) -> Result<Docs, ReadFault>
+    ensures { Reads docs_tree result
+        (fields_reading (forms_view fields.now.items) (members_view members.now)) }
+{
+    let mut docs = Vec::with_capacity(alloc, fields.len())?;
+    for field in fields {
+        let content = read(alloc, &field.1, first_named(&field.0, members));
+        docs.push(in_member(alloc, content, field.0.as_str())?)?;
+    }
+    Ok(Docs::from_vec(alloc, docs)?)
+}
+
+// Alternatives, from the members of an object, of which the tag is the only one.
 #[cycle(read)]
 fn read_tagged(
     alloc: Global,
     tags: &Vec<(Name, FileForm)>,
-    slot: Option<&FileTree>,
+    members: &[(Name, FileTree)],
 ) -> Result<Doc, ReadFault>
-    ensures { Reads doc_tree result (reading (as_tagged (forms_view tags.now.items)) (slot_of slot.entry)) }
+    ensures { Reads doc_tree result
+        (one_reading (tag_reading (forms_view tags.now.items)) (one_member (members_view members.now))) }
 {
-    let members = members_in(alloc, slot)?;
     let Some((name, content)) = one_member(members) else {
         return Err(ReadFault::here(alloc, ReadCause::NotOneTag));
     };
@@ -252,79 +219,51 @@ fn with_tag(alloc: Global, tag: &Name, content: Result<Doc, ReadFault>) -> Resul
     Ok(Doc::Alt(tag.twin(alloc)?, content))
 }
 
-// A list, from the items of an array.
+// The contents of a list, an item after another.
 #[cycle(read)]
-fn read_items(
-    alloc: Global,
-    inner: &Box<FileForm>,
-    slot: Option<&FileTree>,
-) -> Result<Doc, ReadFault>
-    ensures { Reads doc_tree result (reading (as_items (file_form_tree inner.now.value)) (slot_of slot.entry)) }
+fn read_items(alloc: Global, inner: &Box<FileForm>, items: &[FileTree]) -> Result<Docs, ReadFault>
+    ensures { Reads docs_tree result
+        (items_reading (λ j. reading (file_form_tree inner.now.value) (Some j)) 0 (items_view items.now)) }
 {
-    let items = items_in(alloc, slot)?;
     let mut docs = Vec::with_capacity(alloc, items.len())?;
     for i in 0..items.len() {
         let content = read(alloc, inner, Some(&items[i]));
         docs.push(in_item(content, i as u64)?)?;
     }
-    let count = docs.len() as u64;
-    let docs = Docs::from_vec(alloc, docs)?;
-    Ok(Doc::Hold(Shape::List(ListShape { count }), docs))
+    Ok(Docs::from_vec(alloc, docs)?)
 }
 
-// A keyed map, from the members of an object.
-#[cycle(read)]
-fn read_map(alloc: Global, inner: &Box<FileForm>, slot: Option<&FileTree>) -> Result<Doc, ReadFault>
-    ensures { Reads doc_tree result (reading (as_map (file_form_tree inner.now.value)) (slot_of slot.entry)) }
+// A list of these contents.
+fn listed(docs: Docs) -> Doc
+    ensures { doc_tree result ≡ listed_doc (docs_tree docs) }
 {
-    let members = by_name(alloc, members_in(alloc, slot)?)?;
+    let count = docs.len() as u64;
+    Doc::Hold(Shape::List(ListShape { count }), docs)
+}
+
+// A keyed map, from the members of an object in byte order.
+#[cycle(read)]
+fn read_map(alloc: Global, inner: &Box<FileForm>, members: &[(Name, FileTree)]) -> Result<Doc, ReadFault>
+    ensures { Reads doc_tree result
+        (map_reading (λ j. reading (file_form_tree inner.now.value) (Some j)) (members_view members.now)) }
+{
+    let members = by_name(alloc, members)?;
     let mut docs = Vec::with_capacity(alloc, members.len())?;
-    for member in members.iter() {
-        let content = read(alloc, inner, Some(member.1));
-        docs.push(in_member(alloc, content, member.0)?)?;
+    for (name, content) in members.iter() {
+        let doc = read(alloc, inner, Some(*content));
+        docs.push(in_member(alloc, doc, name)?)?;
     }
     keyed(alloc, &members, Docs::from_vec(alloc, docs)?)
 }
 
-// A keyed map of these keys, which rise by bytes.
+// A keyed map with the names of these members, which rise by bytes, as its keys.
 fn keyed(alloc: Global, members: &BTreeMap<&str, &FileTree>, docs: Docs) -> Result<Doc, ReadFault>
     requires { is_rising (keys (lent_members members.now.entries)) ≡ true }
     ensures { Reads doc_tree result
         (Ok (hold (KeyedOf (keys (lent_members members.now.entries))) (docs_tree docs))) }
 {
-    let mut names = Vec::with_capacity(alloc, members.len())?;
-    for name in members.keys() {
-        names.push(Name::from_string(String::from_str(alloc, name)?))?;
-    }
-    match KeyedShape::from_names(SharedList::from_vec(alloc, names)?) {
+    match KeyedShape::from_names(names_of(alloc, members)?) {
         Some(keys) => Ok(Doc::Hold(Shape::Keyed(keys), docs)),
         None => unreachable!(),
     }
-}
-
-// The members in byte order of their names; of two with one name the first stays.
-fn by_name(
-    alloc: Global,
-    members: &[(Name, FileTree)],
-) -> Result<BTreeMap<&str, &FileTree>, AllocError>
-    ensures { IfOk result (λ map. lent_members map.entries ≡ by_name (members_view members.now)) }
-{
-    let mut map = BTreeMap::new(alloc);
-    for i in (0..members.len()).rev() {
-        map.insert(members[i].0.as_str(), &members[i].1)?;
-    }
-    Ok(map)
-}
-
-// The one member of an object, which may come again under its name.
-fn one_member(members: &[(Name, FileTree)]) -> Option<(&Name, &FileTree)>
-    ensures { option_map (λ m. (m.0.now, file_tree m.1.now)) result ≡ one_member (members_view members.now) }
-{
-    let (first, rest) = members.split_first()?;
-    for member in rest {
-        if !first.0.is_same(&member.0) {
-            return None;
-        }
-    }
-    Some((&first.0, &first.1))
 }

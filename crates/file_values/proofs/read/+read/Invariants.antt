@@ -7,8 +7,8 @@ use Rattle.file_values.proofs.ReadLoops.{after}
 use Rattle.file_values.proofs.read.+read.Given as goal
 
 -- the contents so far, and those of what is left, are those of all
-abbrev pub invariant-read_object-loop-field : goal.invariant-read_object-loop-field
-invariant-read_object-loop-field l =
+abbrev pub invariant-read_fields-loop-field : goal.invariant-read_fields-loop-field
+invariant-read_fields-loop-field l =
     fields_reading (forms_view l.field-items) (members_view l.members)
     ≡ after (map doc_tree l.docs.items) (fields_reading (forms_view (drop l.field-index l.field-items)) (members_view l.members))
 
@@ -24,7 +24,7 @@ invariant-read_items-loop-i l =
     items_reading (λ j. reading (file_form_tree l.inner.value) (Some j)) 0 (items_view l.items)
     ≡ after (map doc_tree l.docs.items) (items_reading (λ j. reading (file_form_tree l.inner.value) (Some j)) l.i (items_view (drop l.i l.items)))
 
-abbrev pub invariant-read_map-loop-member : goal.invariant-read_map-loop-member
-invariant-read_map-loop-member l =
+abbrev pub invariant-read_map-loop-name : goal.invariant-read_map-loop-name
+invariant-read_map-loop-name l =
     members_reading (λ j. reading (file_form_tree l.inner.value) (Some j)) (lent_members l.members.entries)
-    ≡ after (map doc_tree l.docs.items) (members_reading (λ j. reading (file_form_tree l.inner.value) (Some j)) (lent_members l.member-iterator))
+    ≡ after (map doc_tree l.docs.items) (members_reading (λ j. reading (file_form_tree l.inner.value) (Some j)) (lent_members l.name-iterator))

@@ -2,7 +2,7 @@ use Rattle.std.proofs.Common.{◌≡◌, drop}
 use Rattle.file_trees.specs.FileTrees.{members_view}
 use Rattle.file_forms.specs.Forms.{forms_view, form_names}
 use Rattle.file_values.specs.Reading.{stranger}
-use Rattle.file_values.proofs.read.stranger.Given as goal
+use Rattle.file_values.proofs.members.stranger.Given as goal
 
 abbrev pub invariant-loop-member : goal.invariant-loop-member
 invariant-loop-member l =
