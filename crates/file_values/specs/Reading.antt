@@ -19,8 +19,8 @@ use Rattle.file_forms.specs.Orders.{by_name, first_named}
 use Rattle.file_forms.specs.Slots.{is_literal, takes}
 use Rattle.file_forms.specs.FileValues.{int_text, listed_doc}
 use Rattle.file_values.specs.declared.misfit.ReadCause.{ReadCause}
-use Rattle.file_values.specs.declared.misfit.ReadCause.TheVariants.{Missing, OtherSort, OtherLiteral, NotAnInt, NotANumber}
-use Rattle.file_values.specs.declared.misfit.ReadCause.TheVariants.{NotAMember, NoField, NotOneTag, NoTag}
+use Rattle.file_values.specs.declared.misfit.ReadCause.TheVariants.{Missing, OtherSort, OtherLiteral, NotAnInt}
+use Rattle.file_values.specs.declared.misfit.ReadCause.TheVariants.{NotANumber, NotAMember, NoField, NotOneTag, NoTag}
 use Rattle.file_values.specs.declared.misfit.FileStep.{FileStep}
 use Rattle.file_values.specs.declared.misfit.FileStep.TheVariants.{Member, Item}
 use Rattle.file_values.specs.declared.misfit.FileMisfit.{FileMisfit}

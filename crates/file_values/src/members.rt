@@ -35,7 +35,8 @@ pub(crate) fn known_members<'a>(
 
 // The first member that no field has.
 fn stranger<'a>(fields: &[(Name, FileForm)], members: &'a [(Name, FileTree)]) -> Option<&'a Name>
-    ensures { option_map (λ n. n.now) result ≡ stranger (form_names (forms_view fields.now)) (members_view members.now) }
+    ensures { option_map (λ n. n.now) result
+        ≡ stranger (form_names (forms_view fields.now)) (members_view members.now) }
 {
     for member in members {
         if !has_field(fields, &member.0) {
