@@ -107,7 +107,7 @@ state_after_bits-burst state from to l same short h =
 
 -- ---- the bits of a byte
 
-digit-value : (d : ℕ) → d < 2 → bit_value (d == 1) ≡ d
+pub digit-value : (d : ℕ) → d < 2 → bit_value (d == 1) ≡ d
 digit-value zero l = refl
 digit-value (suc zero) l = refl
 digit-value (suc (suc d)) l = absurd (omega arith)

@@ -8,3 +8,4 @@ pub mod ByteBits
 pub mod Differences
 pub mod Noticed
 pub mod ChainBreaks
+pub mod StoredRecords

@@ -1,7 +1,7 @@
 //! What a checksum notices, as laws. Each function does nothing: its clauses are the laws.
 ghost use Rattle.std.specs.Prelude.{◌≡◌, ◌≢◌, ◌+◌, ◌/◌, ◌^◌, ◌<◌, ℕ, List, ◌∷◌, ◌++◌, length};
 ghost use Rattle.record_sums.specs.Bursts.{DifferInOneByte, DifferWithin, IsBytes};
-ghost use Rattle.record_sums.specs.Chains.{IsChain, IsIntact, StoredRecord, last_checksum};
+ghost use Rattle.record_sums.specs.Chains.{IsChain, IsIntact, StoredRecord, last_checksum, stored_bytes};
 ghost use Rattle.record_sums.specs.Records.{record_sum};
 
 /// Two payloads that differ in exactly one byte have different checksums.
@@ -33,6 +33,15 @@ pub fn another_checksum_before_is_noticed()
 pub fn another_number_is_noticed()
     ensures { (before number other : ℕ) (payload : List ℕ) → number / 2 ^ 32 ≡ other / 2 ^ 32 → IsBytes payload
         → number ≢ other → record_sum before number payload ≢ record_sum before other payload }
+{}
+
+/// A record is not intact after a change within 32 adjacent bits, even one that reaches from the payload into the
+/// checksum behind it.
+pub fn a_changed_stored_record_is_noticed()
+    ensures { (before number : ℕ) (it changed : StoredRecord) → IsBytes it.payload → IsBytes changed.payload
+        → it.checksum < 2 ^ 32 → changed.checksum < 2 ^ 32
+        → DifferWithin 32 (stored_bytes it) (stored_bytes changed)
+        → IsIntact before number it → ¬ IsIntact before number changed }
 {}
 
 /// A chain of records does not stay one when a payload is changed within 32 adjacent bits, as in one byte.

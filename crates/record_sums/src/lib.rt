@@ -19,7 +19,7 @@ mod table;
 pub use crate::castagnoli::crc32c;
 pub use crate::laws::{
     a_changed_burst_is_noticed, a_changed_byte_is_a_burst, a_changed_byte_is_noticed,
-    a_changed_record_breaks_its_chain, another_checksum_before_is_noticed,
+    a_changed_record_breaks_its_chain, a_changed_stored_record_is_noticed, another_checksum_before_is_noticed,
     another_number_is_noticed,
 };
 pub use crate::records::record_sum;
