@@ -36,21 +36,20 @@ fn comp_way(
     as_tree: &Option<Value>,
 ) -> Result<Option<Way>> {
     match (by_tokens, as_tree) {
-        (Some(comp), Some(tree)) => way_of_both(alloc, lens, comp, tree),
+        (Some(comp), Some(tree)) => Ok(is_comp_of(alloc, lens, comp, tree)?.then_some(Way::Tokens)),
         (Some(_), None) => Ok(None),
         (None, Some(_)) => Ok(Some(Way::Tree)),
         (None, None) => Ok(Some(Way::Refused)),
     }
 }
 
-fn way_of_both(alloc: Global, lens: &Typed, comp: &Comp, tree: &Value) -> Result<Option<Way>> {
+// Whether a tree is that of a complement, which fits the lens.
+pub(crate) fn is_comp_of(alloc: Global, lens: &Typed, comp: &Comp, tree: &Value) -> Result<bool> {
     if !conforms(lens, comp) {
-        return Ok(None);
+        return Ok(false);
     }
     let written = write_comp(alloc, lens, comp)?;
-    let is_same = written == *tree;
-    drop(written);
-    Ok(is_same.then_some(Way::Tokens))
+    Ok(written == *tree)
 }
 
 // The complement of the lens that a text is by its tokens. `None` says nothing of the text.
@@ -81,7 +80,8 @@ fn if_comp(alloc: Global, lens: &Typed, tree: Value) -> Result<Option<Value>> {
     }
 }
 
-fn is_comp(alloc: Global, lens: &Typed, tree: &Value) -> Result<bool> {
+// Whether a tree is that of a complement of the lens.
+pub(crate) fn is_comp(alloc: Global, lens: &Typed, tree: &Value) -> Result<bool> {
     match read_comp(alloc, lens, tree) {
         Ok(_) => Ok(true),
         Err(CompFault::NotAComplement) => Ok(false),

@@ -50,7 +50,13 @@ fn doc_as_tree(alloc: Global, ty: &Ty, text: &[u8]) -> Result<Option<Box<Doc>>> 
     }
 }
 
-fn doc_of_tree(alloc: Global, ty: &Ty, tree: &Value) -> Result<Option<Box<Doc>>> {
+// Whether a tree is that of a document of the type.
+pub(crate) fn is_doc(alloc: Global, ty: &Ty, tree: &Value) -> Result<bool> {
+    Ok(doc_of_tree(alloc, ty, tree)?.is_some())
+}
+
+// The document of the type that a tree is, if it is one.
+pub(crate) fn doc_of_tree(alloc: Global, ty: &Ty, tree: &Value) -> Result<Option<Box<Doc>>> {
     match read_doc(alloc, ty, tree) {
         Ok(doc) => Ok(Some(Box::new(alloc, doc)?)),
         Err(DocFault::NotOfType) => Ok(None),

@@ -11,6 +11,7 @@ mod counts;
 mod damage;
 mod documents;
 mod lines;
+mod records;
 mod rows;
 mod ways;
 
@@ -18,5 +19,6 @@ pub use crate::complements::Complements;
 pub use crate::counts::Way;
 pub use crate::documents::Documents;
 pub use crate::lines::Lines;
+pub use crate::records::{Changes, Openings, Snapshots};
 pub use crate::rows::{Rows, read_rows};
 pub use crate::ways::{BothWays, Pair, Texts};

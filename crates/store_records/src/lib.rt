@@ -6,8 +6,8 @@
 //! the lens of the first payload with the version that it says, and [`read_change`] the change of one. What all
 //! payloads of a store stand for is in store_session.
 //!
-//! Payloads are read from their tokens, without a tree ([`change_by_tokens`], [`snapshot_by_tokens`]). One that is out of
-//! the ordinary is read as a tree, which decides.
+//! Payloads are read from their tokens, without a tree ([`opening_by_tokens`], [`change_by_tokens`],
+//! [`snapshot_by_tokens`]). One that is out of the ordinary is read as a tree, which decides.
 //!
 //! The trees of records, and what a tree is as a record, are in specs/RecordJson.antt; the complement that a tree is is
 //! in specs/StoredComplements.antt. The page docs/FORMATS.md has each record with an example.
@@ -24,10 +24,10 @@ pub mod tokens;
 
 pub use crate::change::{change_in, read_change};
 pub use crate::opening::{StoredLens, lens_of_text, stored_lens};
-pub use crate::parts::{VERSION, is_version_record, snapshot_in};
+pub use crate::parts::{VERSION, is_version_record, opening_in, snapshot_in};
 pub use crate::payloads::{
     change_payload, program_payload, record_named, snapshot_payload, version_payload,
 };
 pub use crate::record_fault::RecordFault;
 pub use crate::text::{payload_of, read_tree};
-pub use crate::tokens::{change_by_tokens, reader_of, snapshot_by_tokens};
+pub use crate::tokens::{change_by_tokens, opening_by_tokens, reader_of, snapshot_by_tokens};

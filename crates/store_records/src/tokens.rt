@@ -85,8 +85,10 @@ pub fn change_by_tokens(alloc: Global, payload: &[u8], scratch: &mut Scratch) ->
     Some(change)
 }
 
-// The text of the program and the version of a store, of its first payload.
-pub(crate) fn opening_by_tokens<'a>(
+/// The text of the program and the version of a store, of its first payload. `None` says nothing of the payload.
+///
+/// The scratch may hold anything. Room in it is kept for the next payload.
+pub fn opening_by_tokens<'a>(
     payload: &'a [u8],
     scratch: &'a mut Scratch,
 ) -> Option<(&'a str, u64)>
