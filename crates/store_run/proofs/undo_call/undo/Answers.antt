@@ -1,7 +1,7 @@
 use Rattle.std.proofs.Common.{◌≡◌, inl, inr, ℕ, List, Err, sym, ap, subst, ◌∙◌, refl}
 use Rattle.std.specs.Prelude.{option_to_list, IsNone}
 use Rattle.lens_io.proofs.Increases.{increased_since}
-use Rattle.store_run.specs.UndoCall.{ExitsUndo, HoldsNow, UndoEnds, undo_refusal_of_log}
+use Rattle.store_run.specs.UndoCall.{ExitsUndo, HoldsNow, UndoEnds, UndoesCall, undo_refusal_of_log}
 use Rattle.store_run.specs.declared.opening.OpenFault.{OpenFault}
 use Rattle.store_run.specs.declared.opening.OpenFault.TheVariants.{DiskFault}
 use Rattle.store_run.proofs.MoreCauses.{behind_cause}
@@ -89,7 +89,7 @@ returns-in-Err-clause-undoes g c =
           let exits : ExitsUndo sink disk session (k, d) (k', d1) before u status = inr (opening.unwritten, fails_to_open sink disk k k' d d1 status fault (unread_log store.bytes before store.holds fault (c.in-Err.ensures.read store.bytes store.told)) sure ends) in
           let cause = behind_cause sink disk before (option_to_list (session.version_due u)) (session.snapshot_text u) (session.undo_text u) k k' d d1 store.bytes status store.told exits in
           record {
-            continues = λ done. absurd (c.refuse_store.ensures.unfinished (inl done));
+            continues = λ done. absurd {A = UndoesCall sink disk session (k, d) (k', d1) before u} (c.refuse_store.ensures.unfinished (inl done));
             stops = exits;
             survives = elim (c.in-Err.ensures.held store.bytes before store.told store.holds) [
               | inl failed ↦
