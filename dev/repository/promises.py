@@ -15,6 +15,7 @@ OF_STORES = [
     ("`apply`", "store_run/specs/Applies", ["StoreGoesOn", "Applies"]),
     ("`show`, `verify`", "store_run/specs/Shows", ["ReadsStore"]),
     ("`pack`", "store_run/specs/Packs", ["KeepsState", "Packs"]),
+    ("`undo`", "store_run/specs/Undoes", ["TakesChangesBack", "Undoes"]),
 ]
 """The commands that both programs have, with the file and the records that say what they promise: of every kind of session."""
 
@@ -24,12 +25,10 @@ EDITLENS = [
     ("`init`", "editlens_main/specs/MakesStore", ["MakesStore"]),
     ("`import`", "editlens_main/specs/ImportsStore", ["ImportsStore"]),
     *OF_STORES,
-    ("`undo`", "editlens_main/specs/Undoes", ["TakesChangesBack", "Undoes"]),
 ]
 EDITHUB = [
     ("`init`", "edithub_main/specs/MakesHub", ["MakesHub"]),
     *OF_STORES,
-    ("`undo`", "edithub_main/specs/HubUndoes", ["TakesHubBack", "HubUndoes"]),
     ("`add`", "edithub_main/specs/HubAdds", ["AddsOn", "HubAdds"]),
 ]
 HEAD = "| Command | `editlens` | `edithub` | In words |"

@@ -9,8 +9,7 @@ use Rattle.lens_io.specs.declared.sink.Sink as OfSink
 use Rattle.lens_io.specs.declared.source.Source as OfSource
 use Rattle.edithub_main.specs.HubAdds.{HubAdds}
 use Rattle.edithub_main.specs.HubOrders.{hub_reads_source, hub_uses_disk, hub_usage_line}
-use Rattle.edithub_main.specs.HubStores.{AppliesHub, ShowsHub, VerifiesHub, PacksHub}
-use Rattle.edithub_main.specs.HubUndoes.{HubUndoes}
+use Rattle.edithub_main.specs.HubStores.{AppliesHub, ShowsHub, VerifiesHub, PacksHub, UndoesHub}
 use Rattle.edithub_main.specs.MakesHub.{MakesHub}
 use Rattle.edithub_main.specs.declared.words.HubOrder.{HubOrder}
 use Rattle.edithub_main.specs.declared.words.HubOrder.TheVariants as order
@@ -24,7 +23,7 @@ module _ {S K D : Type 0} (source : OfSource.Ghosts S) (sink : OfSink.Ghosts K) 
   EndsHubOrder order.Show = ShowsHub sink disk (old.sink, old.disk) (new.sink, new.disk) status
   EndsHubOrder order.Verify = VerifiesHub sink disk (old.sink, old.disk) (new.sink, new.disk) status
   EndsHubOrder order.Pack = PacksHub sink disk (old.sink, old.disk) (new.sink, new.disk) status
-  EndsHubOrder (order.Undo count) = HubUndoes count sink disk (old.sink, old.disk) (new.sink, new.disk) status
+  EndsHubOrder (order.Undo count) = UndoesHub sink disk (old.sink, old.disk) (new.sink, new.disk) status count
   EndsHubOrder order.Add = HubAdds source sink disk old new status
 
 -- the statuses of a command; and of words that name none

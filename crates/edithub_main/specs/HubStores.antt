@@ -1,5 +1,5 @@
 -- What the commands over the store of a hub promise, which store_run defines for every kind of session, of the sessions
--- of hub_session. And what the bytes of a disk are to these commands.
+-- of hub_session, and `undo` of hub_undo. And what the bytes of a disk are to these commands.
 use Rattle.std.specs.Prelude.{◌≡◌, ℕ, List, Some}
 use Rattle.std.specs.List.{All}
 use Rattle.edit_journal.specs.declared.line.Line.{Line}
@@ -10,6 +10,7 @@ use Rattle.view_hub.specs.Laws.{IsHub}
 use Rattle.hub_run.specs.FormLenses.{form_lens}
 use Rattle.hub_run.specs.Runs.{HubState}
 use Rattle.hub_session.specs.contracts.instance.HubSessionStoredSession.TheImpl.{ghosts as hubs}
+use Rattle.hub_undo.specs.contracts.instance.HubUndoUndoneSession.TheImpl.{ghosts as undone_hubs}
 use Rattle.store_run.specs.Applies.{Applies}
 use Rattle.store_run.specs.Devices.{Devices}
 use Rattle.store_run.specs.Packs.{Packs}
@@ -17,6 +18,7 @@ use Rattle.store_run.specs.Shows.{ShowsStore, Verifies}
 use Rattle.store_run.specs.StoreBytes.{HoldsState, IsRefusedOrInStep}
 use Rattle.store_run.specs.StoreRuns.{run_in_store}
 use Rattle.store_run.specs.Stores as stores
+use Rattle.store_run.specs.Undoes.{Undoes}
 use Rattle.store_run.specs.declared.session.StoredAnswer.{StoredAnswer}
 use Rattle.command_ends.specs.declared.status.Status.{Status}
 
@@ -60,3 +62,6 @@ module _ {K D : Type 0} (sink : OfSink.Ghosts K) (disk : OfDisk.Ghosts D) (old n
 
   abbrev pub PacksHub : Type 0
   PacksHub = Packs sink disk hubs IsHubStateInStep ⊥ old new status
+
+  abbrev pub UndoesHub : ℕ → Type 0
+  UndoesHub count = Undoes sink disk undone_hubs count ⊥ old new status

@@ -2,5 +2,4 @@ pub mod HubAdds
 pub mod HubEnds
 pub mod HubOrders
 pub mod HubStores
-pub mod HubUndoes
 pub mod MakesHub

@@ -2,8 +2,8 @@
 //!
 //! [`edithub`] is the complete program apart from its real streams. Its contract is the main theorem: a clause for each
 //! command, which names the record of what the command promises, in a file of specs/ with the record's name. The
-//! commands that a store has for every session are calls of store_run with the hubs of hub_session; `init`, `add` and
-//! `undo` are calls of hub_new, hub_add and hub_undo.
+//! commands that a store has for every session are calls of store_run with the hubs of hub_session, and `undo` with
+//! those of hub_undo; `init` and `add` are calls of hub_new and hub_add.
 //!
 //! [`run_program`] is the same over the real streams and the file of the store.
 #![tactic(auto)]

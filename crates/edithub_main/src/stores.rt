@@ -3,8 +3,7 @@ ghost use Rattle.command_ends.specs.Statuses.{IsStatusAmong, apply_statuses, ini
 ghost use Rattle.std.specs.Prelude.{◌≡◌};
 ghost use Rattle.lens_io.specs.Calls.{SourceFailed, SinkFailed, DiskFailed};
 ghost use Rattle.edithub_main.specs.HubAdds.{HubAdds};
-ghost use Rattle.edithub_main.specs.HubStores.{AppliesHub, ShowsHub, VerifiesHub, PacksHub};
-ghost use Rattle.edithub_main.specs.HubUndoes.{HubUndoes};
+ghost use Rattle.edithub_main.specs.HubStores.{AppliesHub, ShowsHub, VerifiesHub, PacksHub, UndoesHub};
 ghost use Rattle.edithub_main.specs.MakesHub.{MakesHub};
 ghost use Rattle.store_run.specs.Devices.{devices_of};
 
@@ -12,10 +11,10 @@ use command_ends::Status;
 use hub_add::add;
 use hub_new::init_hub;
 use hub_session::HubSession;
-use hub_undo::undo_hub;
+use hub_undo::HubUndo;
 use lens_io::{Disk, Sink, Source};
 use std::alloc::Global;
-use store_run::{apply, pack, show, verify};
+use store_run::{apply, pack, show, undo, verify};
 
 /// Makes the store of a hub.
 pub fn run_init<S: Source, K: Sink, D: Disk>(
@@ -83,12 +82,12 @@ pub fn run_pack<K: Sink, D: Disk>(alloc: Global, sink: &mut K, disk: &mut D) -> 
 
 /// Takes the last changes of the store back.
 pub fn run_undo<K: Sink, D: Disk>(alloc: Global, count: u64, sink: &mut K, disk: &mut D) -> Status
-    ensures undoes { HubUndoes count K.Sink D.Disk (sink.old, disk.old) (sink.new, disk.new) result }
+    ensures undoes { UndoesHub K.Sink D.Disk (sink.old, disk.old) (sink.new, disk.new) result count }
     ensures statuses { IsStatusAmong quiet_statuses result }
     ensures sink_fault { result ≡ Status.SinkFault → SinkFailed K.Sink sink.old sink.new }
     ensures disk_fault { result ≡ Status.DiskFault → DiskFailed D.Disk disk.old disk.new }
 {
-    undo_hub(alloc, count, sink, disk)
+    undo::<HubUndo, K, D>(alloc, count, sink, disk)
 }
 
 /// Adds a view to the hub of the store.

@@ -6,8 +6,7 @@ ghost use Rattle.edithub_main.specs.HubEnds.{EndsHubOrder, GivesHubUsage, HubLea
 ghost use Rattle.store_run.specs.Devices.{devices_of};
 ghost use Rattle.store_run.specs.FaultCauses.{FaultsAreCaused};
 ghost use Rattle.edithub_main.specs.HubOrders.{hub_order_named, hub_reads_source, hub_uses_disk};
-ghost use Rattle.edithub_main.specs.HubStores.{AppliesHub, ShowsHub, VerifiesHub, PacksHub};
-ghost use Rattle.edithub_main.specs.HubUndoes.{HubUndoes};
+ghost use Rattle.edithub_main.specs.HubStores.{AppliesHub, ShowsHub, VerifiesHub, PacksHub, UndoesHub};
 ghost use Rattle.edithub_main.specs.MakesHub.{MakesHub};
 ghost use Rattle.edithub_main.specs.declared.words.HubOrder.TheVariants.{Init, Apply, Show, Verify, Pack, Undo, Add};
 
@@ -21,14 +20,14 @@ use std::alloc::Global;
 /// Does what the program's words say, with its input, its output and its store.
 ///
 /// There is a clause for each command, and it names a record: what the command promises, field by field. Those of
-/// `apply`, `show`, `verify` and `pack` are store_run's, over any kind of session, and specs/HubStores.antt names them
-/// for hubs; each other one stands in a file of specs/ with its name. The fields have the names that they have for
-/// `editlens`:
+/// `apply`, `show`, `verify`, `pack` and `undo` are store_run's, over any kind of session, and specs/HubStores.antt
+/// names them for hubs; each other one stands in a file of specs/ with its name. The fields have the names that they
+/// have for `editlens`:
 ///
 /// - `continues`, `reports`, `starts`: what was read, written and stored where the command came to its end.
 /// - `in_step`: each view of the hub of the store is in its lens's consistency relation with the hub's document; of
 ///   `apply`, in every state of the run.
-/// - `stops`: what was taken, written and stored at every status.
+/// - `stops`: what was taken, written and stored at every status. `unstored`: when `undo` has stored no snapshot.
 /// - `at_once`: a program part that is whole and refused is refused before more is read. `in_time`: each line that had
 ///   ended when the source was called last was answered, and its answer written.
 /// - `survives`: what a crash leaves of the store, at each moment of the call and at its end. `unwritten`: nothing is
@@ -61,7 +60,7 @@ pub fn edithub<S: Source, K: Sink, D: Disk>(
     ensures pack { hub_order_named words.now ≡ Some Pack
         → PacksHub K.Sink D.Disk (sink.old, disk.old) (sink.new, disk.new) result }
     ensures undo { (count : ℕ) → hub_order_named words.now ≡ Some (Undo count)
-        → HubUndoes count K.Sink D.Disk (sink.old, disk.old) (sink.new, disk.new) result }
+        → UndoesHub K.Sink D.Disk (sink.old, disk.old) (sink.new, disk.new) result count }
     ensures add { hub_order_named words.now ≡ Some Add
         → HubAdds S.Source K.Sink D.Disk (devices_of source.old sink.old disk.old)
         (devices_of source.new sink.new disk.new) result }

@@ -32,8 +32,7 @@ use Rattle.editlens_main.specs.ImportsStore.{ImportsStore}
 use Rattle.editlens_main.specs.MakesStore.{MakesStore, FindsLog}
 use Rattle.editlens_main.specs.OrderEnds.{EndsOrder}
 use Rattle.editlens_main.specs.Runs.{RunsScript}
-use Rattle.editlens_main.specs.Stores.{AppliesPair, PacksPair}
-use Rattle.editlens_main.specs.Undoes.{Undoes}
+use Rattle.editlens_main.specs.Stores.{AppliesPair, PacksPair, UndoesPair}
 use Rattle.command_ends.specs.declared.status.Status.{Status}
 use Rattle.command_ends.specs.declared.status.Status.TheVariants.{NoMemory}
 use Rattle.editlens_main.proofs.StoresInStep.{stays_in_step}
@@ -160,13 +159,13 @@ module _ {K D : Type 0} (sink : OfSink.Ghosts K) (disk : OfDisk.Ghosts D) (old :
     refuses = λ other. never_refuses other.reason;
   }
 
-  pub never_undo : (count : ℕ) → Undoes count sink disk old old NoMemory
+  pub never_undo : (count : ℕ) → UndoesPair sink disk old old NoMemory count
   never_undo count = record {
     of_store = λ s. record {
       continues = λ e. cc;
       stops = inr (unwritten_none disk old.1, ((inr refl, Appends-nil (sink.held old.0)), λ e. cc));
       survives = inl (inr (refl, refl));
-      unstored = λ e image now. inl refl;
+      unstored = λ e image now. inl (refl, refl);
       caused = tt;
       completes = λ f w full. inr refl;
     };

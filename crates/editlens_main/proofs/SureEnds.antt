@@ -18,8 +18,9 @@ use Rattle.run_scripts.specs.declared.script_state.ScriptState as OfScript
 use Rattle.run_scripts.proofs.Complete.{complete}
 use Rattle.store_session.specs.StoredStates.{StoredState}
 use Rattle.store_session.specs.contracts.instance.StoreSessionStoredSession.TheImpl.{ghosts as sessions}
-use Rattle.store_undo.specs.UndoCauses.{UndoHasNoRoom, IsUndoCauseInRoom}
 use Rattle.store_undo.specs.Undoing.{Undoing}
+use Rattle.store_undo.specs.contracts.instance.PairUndoUndoneSession.TheImpl.{ghosts as undone_pairs}
+use Rattle.store_run.specs.UndoCall.{UndoHasNoRoom, IsUndoCauseInRoom}
 use Rattle.store_run.specs.Devices.{Devices}
 use Rattle.store_run.specs.Refusals.{EndsRefused}
 use Rattle.store_run.specs.Rooms.{RunHasNoRoom, IsCauseInRoom, PackHasNoRoom, IsPackCauseInRoom}
@@ -72,11 +73,11 @@ module _ (status : Status) (is_full : Type 0) (source : status ≡ SourceFault �
     by_status InputTooLong is h = absurd h
     by_status NoMemory is h = inl (inl (inr is))
 
-  pub undo_in_room : (room : ℕ) (before : List (List ℕ)) (u : Undoing) → IsUndoCauseInRoom (Some room) before u status
-      → StoredInRoom status is_full ((status ≡ Done) ⊎ (status ≡ NoMemory)) (λ most. UndoHasNoRoom most before u) room
+  pub undo_in_room : (room : ℕ) (before : List (List ℕ)) (u : Undoing) → IsUndoCauseInRoom undone_pairs (Some room) before u status
+      → StoredInRoom status is_full ((status ≡ Done) ⊎ (status ≡ NoMemory)) (λ most. UndoHasNoRoom undone_pairs most before u) room
   undo_in_room room before u = by_status status refl where
-    by_status : (s : Status) → status ≡ s → IsUndoCauseInRoom (Some room) before u s
-        → StoredInRoom status is_full ((status ≡ Done) ⊎ (status ≡ NoMemory)) (λ most. UndoHasNoRoom most before u) room
+    by_status : (s : Status) → status ≡ s → IsUndoCauseInRoom undone_pairs (Some room) before u s
+        → StoredInRoom status is_full ((status ≡ Done) ⊎ (status ≡ NoMemory)) (λ most. UndoHasNoRoom undone_pairs most before u) room
     by_status Done is h = inl (inl (inl is))
     by_status SomeRefused is h = absurd h
     by_status Usage is h = absurd h

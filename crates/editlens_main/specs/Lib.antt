@@ -9,4 +9,3 @@ pub mod Statuses
 pub mod Stores
 pub mod SureEnds
 pub mod Top
-pub mod Undoes

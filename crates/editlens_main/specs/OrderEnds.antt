@@ -8,8 +8,7 @@ use Rattle.editlens_main.specs.Generates.{Generates}
 use Rattle.editlens_main.specs.ImportsStore.{ImportsStore}
 use Rattle.editlens_main.specs.MakesStore.{MakesStore}
 use Rattle.editlens_main.specs.Runs.{Runs, Checks, RunsHub, RunsLink}
-use Rattle.editlens_main.specs.Stores.{AppliesPair, ShowsPair, VerifiesPair, PacksPair}
-use Rattle.editlens_main.specs.Undoes.{Undoes}
+use Rattle.editlens_main.specs.Stores.{AppliesPair, ShowsPair, VerifiesPair, PacksPair, UndoesPair}
 use Rattle.command_ends.specs.declared.status.Status.{Status}
 use Rattle.store_run.specs.Devices.{Devices}
 
@@ -25,6 +24,6 @@ module _ {S K D : Type 0} (source : OfSource.Ghosts S) (sink : OfSink.Ghosts K) 
   EndsOrder order.Show = ShowsPair sink disk (old.sink, old.disk) (new.sink, new.disk) status
   EndsOrder order.Verify = VerifiesPair sink disk (old.sink, old.disk) (new.sink, new.disk) status
   EndsOrder order.Pack = PacksPair sink disk (old.sink, old.disk) (new.sink, new.disk) status
-  EndsOrder (order.Undo count) = Undoes count sink disk (old.sink, old.disk) (new.sink, new.disk) status
+  EndsOrder (order.Undo count) = UndoesPair sink disk (old.sink, old.disk) (new.sink, new.disk) status count
   EndsOrder order.Hub = RunsHub source sink (old.source, old.sink) (new.source, new.sink) status
   EndsOrder order.Link = RunsLink source sink (old.source, old.sink) (new.source, new.sink) status

@@ -1,5 +1,5 @@
 -- What the commands over a store promise, which store_run defines for every kind of session, of the sessions of
--- store_session. And what the bytes of a disk are to these commands.
+-- store_session, and `undo` of store_undo. And what the bytes of a disk are to these commands.
 use Rattle.std.specs.Prelude.{◌≡◌, ℕ, List, Some}
 use Rattle.edit_journal.specs.declared.line.Line.{Line}
 use Rattle.lens_io.specs.declared.disk.Disk as OfDisk
@@ -15,7 +15,9 @@ use Rattle.store_run.specs.Shows.{ShowsStore, Verifies}
 use Rattle.store_run.specs.StoreBytes.{HoldsState, IsRefusedOrInStep}
 use Rattle.store_run.specs.StoreRuns.{run_in_store}
 use Rattle.store_run.specs.Stores as stores
+use Rattle.store_run.specs.Undoes.{Undoes}
 use Rattle.store_run.specs.declared.session.StoredAnswer.{StoredAnswer}
+use Rattle.store_undo.specs.contracts.instance.PairUndoUndoneSession.TheImpl.{ghosts as undone_pairs}
 use Rattle.command_ends.specs.declared.status.Status.{Status}
 use Rattle.command_ends.specs.declared.status.Status.TheVariants.{NoMemory}
 
@@ -62,3 +64,6 @@ module _ {K D : Type 0} (sink : OfSink.Ghosts K) (disk : OfDisk.Ghosts D) (old n
 
   abbrev pub PacksPair : Type 0
   PacksPair = Packs sink disk sessions IsStateInStep (RunsOutAtWords old new status) old new status
+
+  abbrev pub UndoesPair : ℕ → Type 0
+  UndoesPair count = Undoes sink disk undone_pairs count (RunsOutAtWords old new status) old new status

@@ -2,9 +2,9 @@
 //!
 //! [`editlens`] is the complete program apart from its real streams. Its contract is the main theorem: a clause for
 //! each command, which names the record of what the command promises, in a file of specs/ with the record's name
-//! (`Runs`, `Applies`, `Undoes`). The commands over a script are calls of run_scripts and hub_run, and what the report
-//! of a script is, is in specs/Report.antt of run_scripts. The commands over a store are calls of store_run, store_new
-//! and store_undo.
+//! (`Runs`), or in specs/Stores.antt. The commands over a script are calls of run_scripts and hub_run, and what the
+//! report of a script is, is in specs/Report.antt of run_scripts. The commands over a store are calls of store_run and
+//! store_new.
 //!
 //! [`run_program`] is the same over the real streams and the file of the store, and [`run_sure`] over devices that
 //! never fail.

@@ -1,18 +1,17 @@
-//! The commands over a store that is there: `apply`, `show`, `verify`, `pack` and `undo`. The last is the call of
-//! store_undo. Each other one is the call of store_run with the sessions of store_session.
+//! The commands over a store that is there: `apply`, `show`, `verify`, `pack` and `undo`. Each is the call of store_run
+//! with the sessions of store_session, and `undo` with those of store_undo.
 ghost use Rattle.command_ends.specs.Statuses.{IsStatusAmong, apply_statuses, quiet_statuses};
 ghost use Rattle.std.specs.Prelude.{◌≡◌};
 ghost use Rattle.lens_io.specs.Calls.{SourceFailed, SinkFailed, DiskFailed};
-ghost use Rattle.editlens_main.specs.Stores.{AppliesPair, ShowsPair, VerifiesPair, PacksPair};
-ghost use Rattle.editlens_main.specs.Undoes.{Undoes};
+ghost use Rattle.editlens_main.specs.Stores.{AppliesPair, ShowsPair, VerifiesPair, PacksPair, UndoesPair};
 ghost use Rattle.store_run.specs.Devices.{devices_of};
 
 use command_ends::Status;
 use lens_io::{Disk, Sink, Source};
 use std::alloc::Global;
-use store_run::{apply, pack, show, verify};
+use store_run::{apply, pack, show, undo, verify};
 use store_session::StoreSession;
-use store_undo::undo;
+use store_undo::PairUndo;
 
 /// Goes on with the session of the store, by a journal.
 pub fn run_apply<S: Source, K: Sink, D: Disk>(
@@ -63,10 +62,10 @@ pub fn run_pack<K: Sink, D: Disk>(alloc: Global, sink: &mut K, disk: &mut D) -> 
 
 /// Takes the store back to what it was before its last changes.
 pub fn run_undo<K: Sink, D: Disk>(alloc: Global, count: u64, sink: &mut K, disk: &mut D) -> Status
-    ensures undoes { Undoes count K.Sink D.Disk (sink.old, disk.old) (sink.new, disk.new) result }
+    ensures undoes { UndoesPair K.Sink D.Disk (sink.old, disk.old) (sink.new, disk.new) result count }
     ensures statuses { IsStatusAmong quiet_statuses result }
     ensures sink_fault { result ≡ Status.SinkFault → SinkFailed K.Sink sink.old sink.new }
     ensures disk_fault { result ≡ Status.DiskFault → DiskFailed D.Disk disk.old disk.new }
 {
-    undo(alloc, count, sink, disk)
+    undo::<PairUndo, K, D>(alloc, count, sink, disk)
 }

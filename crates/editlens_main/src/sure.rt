@@ -12,8 +12,8 @@ ghost use Rattle.run_pair.specs.Scripts.{pair_script, types_script};
 ghost use Rattle.run_scripts.specs.ScriptEnds.{IsComplete as IsCompleteScript, Reports};
 ghost use Rattle.store_new.specs.Import.{import_command};
 ghost use Rattle.store_new.specs.Init.{init_command};
-ghost use Rattle.store_undo.specs.UndoCauses.{UndoHasNoRoom};
-ghost use Rattle.store_undo.specs.UndoStores.{StoreToUndo, RefusedToUndo};
+ghost use Rattle.store_run.specs.UndoCall.{StoreToUndo, RefusedToUndo, UndoHasNoRoom};
+ghost use Rattle.store_undo.specs.contracts.instance.PairUndoUndoneSession.TheImpl.{ghosts as undone_pairs};
 ghost use Rattle.store_run.specs.Rooms.{RunHasNoRoom, PackHasNoRoom};
 ghost use Rattle.editlens_main.specs.Commands.{order_named, uses_disk};
 ghost use Rattle.editlens_main.specs.Stores.{PairStore, RefusedPairStore};
@@ -96,7 +96,7 @@ pub fn run_sure(
         → EndsInRoom result (length sink.new.held ≡ sink.new.room)
         ((result ≡ Status.StoreRefused) ⊎ (result ≡ Status.NoMemory)) }
     ensures undo_refused_sure { (count : ℕ) → order_named words.now ≡ Some (Undo count)
-        → RefusedToUndo ⟦<SureDisk as Disk>⟧ count disk.old
+        → RefusedToUndo ⟦<SureDisk as Disk>⟧ undone_pairs count disk.old
         → EndsInRoom result (length sink.new.held ≡ sink.new.room)
         ((result ≡ Status.StoreRefused) ⊎ (result ≡ Status.NoMemory)) }
     ensures apply_sure { order_named words.now ≡ Some Apply → length source.old.left ≤ MOST_BYTES
@@ -111,10 +111,10 @@ pub fn run_sure(
         (λ most. PackHasNoRoom ⟦<StoreSession as StoredSession>⟧ most store.payloads store.state store.version)
         disk.old.room }
     ensures undo_sure { (count : ℕ) → order_named words.now ≡ Some (Undo count)
-        → (store : StoreToUndo ⟦<SureDisk as Disk>⟧ count disk.old)
+        → (store : StoreToUndo ⟦<SureDisk as Disk>⟧ undone_pairs count disk.old)
         → StoredInRoom result (length sink.new.held ≡ sink.new.room)
         ((result ≡ Status.Done) ⊎ (result ≡ Status.NoMemory))
-        (λ most. UndoHasNoRoom most store.payloads store.undone) disk.old.room }
+        (λ most. UndoHasNoRoom undone_pairs most store.payloads store.undone) disk.old.room }
 {
     editlens(alloc, words, source, sink, disk)
 }

@@ -12,11 +12,10 @@ ghost use Rattle.editlens_main.specs.MakesStore.{MakesStore};
 ghost use Rattle.editlens_main.specs.OrderEnds.{EndsOrder};
 ghost use Rattle.editlens_main.specs.Runs.{Runs, Checks, RunsHub, RunsLink};
 ghost use Rattle.editlens_main.specs.Statuses.{MayEnd};
-ghost use Rattle.editlens_main.specs.Stores.{AppliesPair, ShowsPair, VerifiesPair, PacksPair};
+ghost use Rattle.editlens_main.specs.Stores.{AppliesPair, ShowsPair, VerifiesPair, PacksPair, UndoesPair};
 ghost use Rattle.editlens_main.specs.Top.{GivesUsage, LeavesAlone};
 ghost use Rattle.store_run.specs.Devices.{devices_of};
 ghost use Rattle.store_run.specs.FaultCauses.{FaultsAreCaused};
-ghost use Rattle.editlens_main.specs.Undoes.{Undoes};
 
 use crate::generated::run_generated;
 use crate::makings::{run_import, run_init};
@@ -32,8 +31,8 @@ use std::alloc::Global;
 ///
 /// There is a clause for each command, and it names a record: what the command promises, field by field. It stands in a
 /// file of specs/ with the record's name. `run`, `check`, `hub` and `link` have one record, `RunsScript`, over what a
-/// script means to each; those of `apply`, `show`, `verify` and `pack` are store_run's, over any kind of session, and
-/// specs/Stores.antt names them for this one. The fields have the same names everywhere:
+/// script means to each; those of `apply`, `show`, `verify`, `pack` and `undo` are store_run's, over any kind of
+/// session, and specs/Stores.antt names them for this one. The fields have the same names everywhere:
 ///
 /// - `reports` or `continues`, and `starts` and `brings` of the commands that make a store: what was read, written and
 ///   stored where the command came to its end, with the status `Done` or `SomeRefused`. `declines`: what `import` does
@@ -100,7 +99,7 @@ pub fn editlens<S: Source, K: Sink, D: Disk>(
     ensures pack { order_named words.now ≡ Some Pack
         → PacksPair K.Sink D.Disk (sink.old, disk.old) (sink.new, disk.new) result }
     ensures undo { (count : ℕ) → order_named words.now ≡ Some (Undo count)
-        → Undoes count K.Sink D.Disk (sink.old, disk.old) (sink.new, disk.new) result }
+        → UndoesPair K.Sink D.Disk (sink.old, disk.old) (sink.new, disk.new) result count }
 
     // Whatever the words are.
     ensures usage { order_named words.now ≡ None → GivesUsage K.Sink sink.old sink.new result }

@@ -5,7 +5,5 @@ pub mod Joins
 pub mod Makings
 pub mod OneEdit
 pub mod Steps
-pub mod UndoCalls
 pub mod UndoLines
-pub mod UndoRefusals
 pub mod UndoneForms

@@ -1,6 +1,6 @@
 -- What is made, from what was opened and from what its parts say.
 use Rattle.std.proofs.lemmas.Bool.{lt-ltb}
-use Rattle.std.proofs.Common.{◌≡◌, ℕ, ◌-◌, Bool, cond, length, take, List, ◌++◌, true, Some, None, Ok, sym, ap, ap₂, subst, ◌∙◌}
+use Rattle.std.proofs.Common.{◌≡◌, ℕ, ◌-◌, Bool, cond, length, take, List, ◌++◌, true, Some, None, Ok, refl, sym, ap, ap₂, subst, ◌∙◌}
 use Rattle.std.specs.Prelude.{option_map, option_and_then}
 use Rattle.lens_forms.specs.Forms.{FormTree}
 use Rattle.store_records.specs.declared.record_fault.RecordFault.{RecordFault}
@@ -24,7 +24,8 @@ use Rattle.hub_undo.specs.HubUndoing.{HubUndoing, HubTakesBack, last_hub_changes
 use Rattle.store_undo.specs.Undoing.{payloads_before}
 use Rattle.hub_records.specs.Views.{hub_standing}
 use Rattle.hub_run.specs.RunStates.{ready_lens}
-use Rattle.store_undo.specs.Making.{IsMakingFault, fault_of, kept_before}
+use Rattle.store_run.specs.Making.{IsMakingFault}
+use Rattle.store_undo.specs.Making.{fault_of, kept_before}
 use Rattle.view_hub.specs.Views.{hub_tree}
 use Rattle.hub_undo.specs.UndoMaking.{AreTexts, IsMade, StoodTwice, UndoneBy}
 use Rattle.hub_undo.specs.declared.making.OpenedTwice.{OpenedTwice}
@@ -64,9 +65,9 @@ module _ (count : ℕ) (held : List (List ℕ)) (now : HubStanding) (changes : L
   pub undone_now : UndoneBy now.forms before.was.hub changes before.made
   undone_now = subst (λ fs. UndoneBy fs before.was.hub changes before.made) before.forms before.undone_is
 
-  made_now : (more : MoreText) → Texts now.forms more.payload more.lines → IsMade count held more
+  made_now : (more : MoreText) → Texts now.forms more.payload more.lines → IsMade count held (record { version = None; texts = more })
   made_now more texts =
-      record { u = undoing_now; is = is_undoing; snapshot = texts.snapshot; lines = texts.written; takes_back = taken_back more.payload more.lines texts }
+      record { u = undoing_now; is = is_undoing; version = refl; snapshot = texts.snapshot; lines = texts.written; takes_back = taken_back more.payload more.lines texts }
 
 -- ---- what was opened
 
@@ -99,7 +100,7 @@ module _ (count : ℕ) (held : List (List ℕ)) (changes : List HubChangeTree) (
   accepted_here = (made_here, undone_here)
 
   pub made_of : (more : MoreText) → ((r : HubTree × CarriedTree) → UndoneBy stands_now.forms (hub_tree twice.earlier) changes r
-      → AreTexts stands_now.forms (hub_tree twice.earlier) r more.payload more.lines) → IsMade count held more
+      → AreTexts stands_now.forms (hub_tree twice.earlier) r more.payload more.lines) → IsMade count held (record { version = None; texts = more })
   made_of more texts =
       made_now count held stands_now changes stood.now last more
       (subst (λ h. AreTexts stands_now.forms h made_here more.payload more.lines) (sym same_hub) (texts made_here undone_here))

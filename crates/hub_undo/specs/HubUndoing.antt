@@ -1,5 +1,5 @@
 -- What undoing the last changes of the store of a hub comes to, or why the store is refused.
--- Read it from the end: `hub_refusal_in`, `hub_undo_refusal`, `HubTakesBack`, `hub_undoing`, then `last_hub_changes`.
+-- Read it from the end: `hub_undo_refusal`, `HubTakesBack`, `RepresentsNow`, `hub_undoing`, then `last_hub_changes`.
 use Rattle.std.specs.Prelude.{◌≡◌, ℕ, ◌+◌, ◌-◌, List, [], ◌∷◌, ◌++◌, length, drop, nat_lt, if◌then◌else◌, codes}
 use Rattle.std.specs.Prelude.{decimal, Option, Some, None, option_map, option_and_then, Result, Ok, Err}
 use Rattle.serde_json.specs.Written.{compact_text}
@@ -7,7 +7,6 @@ use Rattle.answer_text.specs.Lines.{tree_line}
 use Rattle.edit_json.specs.WordJson.{tree_of_word}
 use Rattle.edit_journal.specs.EntryJson.{tree_of_text}
 use Rattle.edit_module.specs.Words.{WordTree}
-use Rattle.gate_log.specs.LogBytes.{LogContent, payloads, not_a_log, bad_record, log_of}
 use Rattle.view_hub.specs.Hubs.{HubTree, Place, CarriedTree}
 use Rattle.view_hub.specs.Laws.{IsHub}
 use Rattle.hub_run.specs.FormLenses.{form_lens}
@@ -18,7 +17,7 @@ use Rattle.hub_records.specs.HubStands.{HubStanding, stands_as_hub}
 use Rattle.store_records.specs.declared.record_fault.RecordFault.{RecordFault}
 use Rattle.store_records.specs.declared.record_fault.RecordFault.TheVariants as reopening
 use Rattle.store_run.specs.declared.refusals.StoreRefusal.{StoreRefusal}
-use Rattle.store_run.specs.declared.refusals.StoreRefusal.TheVariants.{NotALog, BadRecord, NotConsistent, NothingToUndo}
+use Rattle.store_run.specs.declared.refusals.StoreRefusal.TheVariants.{BadRecord, NotConsistent, NothingToUndo}
 use Rattle.store_undo.specs.Undoing.{payloads_before}
 use Rattle.hub_undo.specs.HubUndone.{HubBringsBack, hub_undone}
 
@@ -89,6 +88,10 @@ words_text c = tree_line (codes "undo hub") (tree_of_word c.hub) ++ view_undo_li
 abbrev pub hub_undo_text : HubUndoing → List ℕ
 hub_undo_text u = words_text u.words ++ hub_state_lines u.now.forms u.before
 
+-- the payloads represent the hub that there is now
+abbrev pub RepresentsNow : List (List ℕ) → HubUndoing → Type 0
+RepresentsNow payloads u = stands_as_hub payloads ≡ Ok u.now
+
 -- The words act on the documents that there are now, and make those from before the last changes. That hub is in step,
 -- and with the snapshot behind the payloads it is what the store represents.
 pub record HubTakesBack (held : List (List ℕ)) (u : HubUndoing) : Type 0 where
@@ -110,12 +113,3 @@ hub_refusal_of (Err reopening.NoMemory) changes = None
 -- why these payloads are refused, if they are
 abbrev pub hub_undo_refusal : ℕ → List (List ℕ) → Option StoreRefusal
 hub_undo_refusal count held = hub_refusal_of (stands_as_hub held) (last_hub_changes count held)
-
-abbrev pub hub_refusal_of_log : ℕ → LogContent → Option StoreRefusal
-hub_refusal_of_log count (payloads held) = hub_undo_refusal count held
-hub_refusal_of_log count not_a_log = Some NotALog
-hub_refusal_of_log count (bad_record number) = Some (BadRecord number)
-
--- why these bytes are refused, if they are
-abbrev pub hub_refusal_in : ℕ → List ℕ → Option StoreRefusal
-hub_refusal_in count bytes = hub_refusal_of_log count (log_of bytes)

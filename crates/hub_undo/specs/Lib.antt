@@ -1,6 +1,6 @@
 pub mod HubUndoing
 pub mod HubUndone
-pub mod UndoCall
+pub mod UndoLaws
 pub mod UndoMaking
 pub mod UndoSteps
 pub mod UndoViews

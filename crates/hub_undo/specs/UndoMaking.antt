@@ -1,6 +1,6 @@
--- For the helpers of `undo_hub`: what is opened and what is made before anything is stored. Read it from the end:
+-- For the helpers of `undo`: what is opened and what is made before anything is stored. Read it from the end:
 -- `IsMade`, `AreTexts`, `UndoneBy`, then `StoodTwice`.
-use Rattle.std.specs.Prelude.{◌≡◌, ℕ, List, ◌++◌, length, map, take, Ok, Some, true}
+use Rattle.std.specs.Prelude.{◌≡◌, ℕ, List, ◌++◌, length, map, take, Ok, Some, None, true}
 use Rattle.serde_json.specs.Written.{compact_text}
 use Rattle.edit_journal.specs.EntryJson.{tree_of_text}
 use Rattle.lens_forms.specs.Forms.{FormTree}
@@ -15,9 +15,10 @@ use Rattle.hub_records.specs.HubStands.{HubStanding, stands_as_hub}
 use Rattle.hub_records.specs.Views.{hub_change_tree, hub_standing}
 use Rattle.hub_records.specs.WholeInts.{hub_holds_i64s}
 use Rattle.hub_records.specs.declared.change.HubChange.{HubChange}
-use Rattle.store_run.specs.declared.storing.MoreText.{MoreText}
+use Rattle.store_run.specs.Making as making
+use Rattle.store_run.specs.declared.undo_session.Making.{Making}
 use Rattle.hub_undo.specs.HubUndone.{HubBringsBack, hub_undone}
-use Rattle.hub_undo.specs.HubUndoing.{HubUndoing, HubTakesBack, edits_of_all, hub_undo_snapshot_text, hub_undo_text}
+use Rattle.hub_undo.specs.HubUndoing.{HubTakesBack, edits_of_all, hub_undo_snapshot_text, hub_undo_text}
 use Rattle.hub_undo.specs.HubUndoing.{hub_undoing}
 use Rattle.hub_undo.specs.HubUndoing.{words_text}
 use Rattle.hub_undo.specs.declared.making.OpenedTwice.{OpenedTwice}
@@ -47,10 +48,7 @@ pub record AreTexts (forms : List FormTree) (h : HubTree) (r : HubTree × Carrie
   pub back : HubBringsBack form_lens forms r.1 r.0 h
   pub whole : hub_holds_i64s h ≡ true
 
--- what is made is what undoing the last changes of these payloads stores and writes
-pub record IsMade (count : ℕ) (held : List (List ℕ)) (made : MoreText) : Type 0 where
-  pub u : HubUndoing
-  pub is : hub_undoing count held ≡ Some u
-  pub snapshot : made.payload ≡ hub_undo_snapshot_text u
-  pub lines : made.lines ≡ hub_undo_text u
-  pub takes_back : HubTakesBack held u
+-- what is made is what undoing the last changes of these payloads stores and writes; there is no version record
+abbrev pub IsMade : ℕ → List (List ℕ) → Making → Type 0
+IsMade count held made =
+    making.IsMade (hub_undoing count held) (λ _. None) hub_undo_snapshot_text hub_undo_text (HubTakesBack held) made

@@ -10,7 +10,7 @@ ghost use Rattle.hub_records.specs.Outcomes.{IsStandFault};
 ghost use Rattle.hub_undo.specs.HubUndone.{HubBringsBack};
 ghost use Rattle.hub_undo.specs.HubUndoing.{hub_changes_of, last_hub_changes, hub_undo_refusal};
 ghost use Rattle.hub_undo.specs.UndoMaking.{AreTexts, IsMade, StoodTwice, UndoneBy, change_trees};
-ghost use Rattle.store_undo.specs.Making.{IsMakingFault};
+ghost use Rattle.store_run.specs.Making.{IsMakingFault};
 
 use crate::stepping::undo_changes;
 use crate::undo_lines::undo_lines;
@@ -20,8 +20,8 @@ use hub_records::{
 use lens_flat::Flat;
 use std::alloc::{AllocError, Global};
 use store_records::RecordFault;
-use store_run::{MoreText, StoreRefusal};
-use store_undo::{MakingFault, kept_before, making_fault};
+use store_run::{Making, MakingFault, MoreText, StoreRefusal};
+use store_undo::{kept_before, making_fault};
 use texts::Bytes;
 use view_hub::{Hub, HubCarried, HubParts, copy_parts};
 
@@ -33,7 +33,7 @@ pub(crate) struct OpenedTwice {
 }
 
 // What `undo` stores and writes over these payloads, or why they are refused.
-pub(crate) fn make(alloc: Global, count: u64, records: &[Bytes]) -> Result<MoreText, MakingFault>
+pub(crate) fn make(alloc: Global, count: u64, records: &[Bytes]) -> Result<Making, MakingFault>
     ensures { MatchResult result (IsMade count records.now) (IsMakingFault (hub_undo_refusal count records.now)) }
 {
     match open(alloc, count, records) {
@@ -60,7 +60,7 @@ fn make_opened(
     count: u64,
     records: &[Bytes],
     twice: OpenedTwice,
-) -> Result<MoreText, MakingFault>
+) -> Result<Making, MakingFault>
     requires stood { StoodTwice count records.now twice }
     ensures { MatchResult result (IsMade count records.now) (IsMakingFault (hub_undo_refusal count records.now)) }
 {
@@ -69,8 +69,11 @@ fn make_opened(
     };
     let mut hub = twice.opened.hub;
     hub.replace(twice.earlier);
-    let more = texts_of(alloc, &mut hub, changes.as_slice())?;
-    Ok(more)
+    let texts = texts_of(alloc, &mut hub, changes.as_slice())?;
+    Ok(Making {
+        version: None,
+        texts,
+    })
 }
 
 // The last changes, so many as the count says. None if there are not so many payloads behind the first one, or one of

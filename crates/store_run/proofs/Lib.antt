@@ -3,6 +3,7 @@ pub mod AnyBytes
 pub mod ApplyCalls
 pub mod ApplyCausesHold
 pub mod ApplyEndsHold
+pub mod BehindCalls
 pub mod ChangeCounts
 pub mod CrashSafety
 pub mod Effects
@@ -21,3 +22,4 @@ pub mod RunParts
 pub mod Standing
 pub mod StoreOpenings
 pub mod StoredPayloads
+pub mod UndoCalls

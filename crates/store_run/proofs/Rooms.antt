@@ -19,6 +19,7 @@ use Rattle.store_run.specs.CountLines.{packed_line}
 use Rattle.store_run.specs.Effects.{IsOver, IsFullAt, StopsStoring}
 use Rattle.store_run.specs.ApplyEnds.{status_of, StopsStored, ExitsApply}
 use Rattle.store_run.specs.JournalEnds.{StopsJournal}
+use Rattle.store_run.specs.MoreCauses.{IsStoreCause}
 use Rattle.store_run.specs.PackCall.{EndsPack, packed}
 use Rattle.store_run.specs.Rooms.{most_bytes, HasNoRoom, TakesWithin, TakesTooMany, RunHasNoRoom, IsCauseInRoom, PackHasNoRoom, IsPackCauseInRoom}
 use Rattle.store_run.specs.StoreRuns.{any_line_refused, kept_of}
@@ -216,15 +217,6 @@ module _ {K D : Type 0} (sink : OfSink.Ghosts K) (disk : OfDisk.Ghosts D) where
       (λ most over. no_room_of most (l.gate + records_length front) before front (payload ∷ []) (front ++ payload ∷ []) (gate_behind l.gate before front g) refl over)
       (full_room stop (disk.room d) (l.gate + records_length front) (payload ∷ []) s.full)
 
-  -- what each status says of the payload that had no room; P and Q say it
-  abbrev IsStoreCause : Status → Type 0 → Type 0 → Type 0
-  IsStoreCause ending.StoreRefused P Q = P
-  IsStoreCause ending.DiskFault P Q = Q
-  IsStoreCause ending.Done P Q = Unit {0}
-  IsStoreCause ending.SinkFault P Q = Unit {0}
-  IsStoreCause ending.NoMemory P Q = Unit {0}
-  IsStoreCause status P Q = ⊥
-
   store_stop : (stop : Stop) (o : Option ℕ) (R : ℕ → Type 0) → IsOwnStop stop → IfSome (room_at stop o) R → IsStoreCause (status_of stop) (R most_bytes) (IfSome o R)
   store_stop LogFull o R own h = h
   store_stop DiskFault o R own h = h
@@ -233,10 +225,10 @@ module _ {K D : Type 0} (sink : OfSink.Ghosts K) (disk : OfDisk.Ghosts D) where
   store_stop SourceFault o R own h = absurd own
   store_stop TooLong o R own h = absurd own
 
-  at_other : (status other : Status) (P Q : Type 0) → status ≡ other → IsStoreCause other P Q → IsStoreCause status P Q
+  pub at_other : (status other : Status) (P Q : Type 0) → status ≡ other → IsStoreCause other P Q → IsStoreCause status P Q
   at_other status other P Q e h = subst (λ (s : Status). IsStoreCause s P Q) (sym e) h
 
-  store_cause : (k k' : K) (d d' : D) (l l' : LogState) (before front : Payloads) (payload line : List ℕ) (status : Status) → l.gate ≡ closed_gate before
+  pub store_cause : (k k' : K) (d d' : D) (l l' : LogState) (before front : Payloads) (payload line : List ℕ) (status : Status) → l.gate ≡ closed_gate before
       → StoreEnds sink disk (k, d, l) (k', d', l') line front payload status
       → IsStoreCause status (HasNoRoom most_bytes before (front ++ payload ∷ [])) (IfSome (disk.room d) (λ most. HasNoRoom most before (front ++ payload ∷ [])))
   store_cause k k' d d' l l' before front payload line status g (inl h) =

@@ -10,6 +10,7 @@ pub mod Effects
 pub mod FaultCauses
 pub mod InTime
 pub mod JournalEnds
+pub mod Making
 pub mod MoreCall
 pub mod MoreCauses
 pub mod OkLines
@@ -25,4 +26,6 @@ pub mod StoreBytes
 pub mod StoreEnds
 pub mod StoreRuns
 pub mod Stores
+pub mod UndoCall
+pub mod Undoes
 pub mod ViewCall

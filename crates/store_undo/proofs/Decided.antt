@@ -1,5 +1,6 @@
 -- Payloads are refused, or their last changes are undone.
 use Rattle.std.proofs.Common.{◌≡◌, ℕ, ◌+◌, Bool, true, false, cond, List, [], ◌∷◌, ◌++◌, Option, Some, None, Result, Ok, Err, refl, sym, subst, ◌∙◌}
+use Rattle.std.proofs.lemmas.Option.{same_Some}
 use Rattle.std.specs.Prelude.{nat_eq, option_and_then}
 use Rattle.edit_module.specs.Changes.{ChangeTree}
 use Rattle.edit_session.specs.Step.{TripleTree, AllStepped, IsInStep}
@@ -11,14 +12,15 @@ use Rattle.store_records.specs.RecordJson.{RecordTree, version_record, change_re
 use Rattle.store_records.specs.StoredLens.{lens_and_version}
 use Rattle.store_records.specs.declared.record_fault.RecordFault.{RecordFault}
 use Rattle.store_records.specs.declared.record_fault.RecordFault.TheVariants as reopening
+use Rattle.store_run.specs.UndoCall.{undo_refusal_of_log, undo_refusal_in}
 use Rattle.store_run.specs.declared.refusals.StoreRefusal.{StoreRefusal}
 use Rattle.store_run.specs.declared.refusals.StoreRefusal.TheVariants.{NothingToUndo}
 use Rattle.store_session.specs.ConsistencyTest.{is_consistent}
 use Rattle.store_session.specs.Stands.{Standing, step_of, after_step, after_triple, triple_of, is_too_new, after_record, going_on, after_payloads, at_start, from_opening, stands}
 use Rattle.store_undo.specs.UndoRecords.{new_records, version_then, TakesBack}
-use Rattle.store_undo.specs.Undoing.{Undoing, undoing_from, undoing_of, undoing, last_changes, payloads_before, refusal_of, undo_refusal_of_log, undo_refusal_in, undo_refusal}
+use Rattle.store_undo.specs.Undoing.{Undoing, undoing_from, undoing_of, undoing, last_changes, payloads_before, refusal_of, undo_refusal}
+use Rattle.store_undo.specs.contracts.instance.PairUndoUndoneSession.TheImpl.{ghosts as pairs}
 use Rattle.store_undo.proofs.Earlier.{stood_then}
-use Rattle.store_undo.proofs.UndoRefusals.{same_undoing}
 
 -- ---- a reading of payloads never runs out of memory
 
@@ -92,12 +94,12 @@ undone_unless count held none = undone_standing count held (stands held) refl no
 abbrev pub HoldsAnUndoing : ℕ → List ℕ → Type 0
 HoldsAnUndoing count bytes = (held : List (List ℕ)) × (u : Undoing) × HoldsPayloads held bytes × (undoing count held ≡ Some u)
 
-undone_log : (count : ℕ) (bytes : List ℕ) (c : LogContent) → log_of bytes ≡ c → undo_refusal_of_log count c ≡ None → HoldsAnUndoing count bytes
+undone_log : (count : ℕ) (bytes : List ℕ) (c : LogContent) → log_of bytes ≡ c → undo_refusal_of_log pairs count c ≡ None → HoldsAnUndoing count bytes
 undone_log count bytes (payloads held) is none = let u = undone_unless count held none in (held, u.0, is, u.1)
 undone_log count bytes not_a_log is none = cc
 undone_log count bytes (bad_record number) is none = cc
 
-pub undone_in : (count : ℕ) (bytes : List ℕ) → undo_refusal_in count bytes ≡ None → HoldsAnUndoing count bytes
+pub undone_in : (count : ℕ) (bytes : List ℕ) → undo_refusal_in pairs count bytes ≡ None → HoldsAnUndoing count bytes
 undone_in count bytes none = undone_log count bytes (log_of bytes) refl none
 
 -- ---- refused
@@ -145,7 +147,7 @@ earlier_changes : (count : ℕ) (held : List (List ℕ)) (now : Standing) (o : O
     → option_and_then (λ (cs : List ChangeTree). undoing_from now cs (stands (payloads_before count held))) o ≡ Some u → undoing count held ≡ Some u → StoodEarlier count held u
 earlier_changes count held now (Some cs) u is last h undoes =
     let stood = stood_then count held now cs is last in
-    subst (StoodEarlier count held) (same_undoing (undoing count held) _ u stood.undoes undoes)
+    subst (StoodEarlier count held) (same_Some _ u (sym stood.undoes ∙ undoes))
     (is, stood.was, stood.stood, refl, stood.over.form)
 earlier_changes count held now None u is last h undoes = cc
 

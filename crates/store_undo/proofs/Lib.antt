@@ -4,7 +4,4 @@ pub mod Earlier
 pub mod Makings
 pub mod Splitting
 pub mod TreeTexts
-pub mod UndoCalls
-pub mod UndoCauses
-pub mod UndoRefusals
 pub mod VersionRecords

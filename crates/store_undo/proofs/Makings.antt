@@ -1,6 +1,6 @@
 -- What is made, from what was opened and from what its parts say.
-use Rattle.std.proofs.Common.{◌≡◌, ℕ, ◌-◌, Bool, cond, List, ◌∷◌, [], ◌++◌, length, take, Result, Some, Ok, Err, sym, ap, subst, ◌∙◌}
-use Rattle.std.specs.Prelude.{nat_lt, option_to_list}
+use Rattle.std.proofs.Common.{◌≡◌, ℕ, ◌-◌, Bool, cond, List, length, take, Result, Some, Ok, Err, sym, ap, subst, ◌∙◌}
+use Rattle.std.specs.Prelude.{nat_lt}
 use Rattle.edit_module.specs.Changes.{ChangeTree}
 use Rattle.edit_session.specs.Step.{TripleTree}
 use Rattle.edit_session.specs.Views.{triple_tree}
@@ -9,9 +9,9 @@ use Rattle.store_records.specs.declared.record_fault.RecordFault.{RecordFault}
 use Rattle.store_session.specs.Stands.{Standing, stands}
 use Rattle.store_session.specs.Standings.{standing}
 use Rattle.store_undo.specs.Making.{AreTexts, IsMade, StoodTwice, UndoneBy, kept_before}
-use Rattle.store_undo.specs.UndoRecords.{version_due, version_then}
+use Rattle.store_undo.specs.UndoRecords.{version_due}
 use Rattle.store_undo.specs.Undoing.{changes_of, last_payloads, payloads_before, last_changes}
-use Rattle.store_undo.specs.declared.making.Making.{Making}
+use Rattle.store_run.specs.declared.undo_session.Making.{Making}
 use Rattle.store_undo.specs.declared.opening.OpenedTwice.{OpenedTwice}
 use Rattle.store_undo.proofs.Earlier.{stood_then, some_last}
 use Rattle.store_undo.proofs.VersionRecords.{undone_stands}

@@ -1,8 +1,5 @@
 pub mod Making
 pub mod TreeTexts
-pub mod UndoCall
-pub mod UndoCauses
-pub mod UndoEnds
+pub mod UndoLaws
 pub mod UndoRecords
-pub mod UndoStores
 pub mod Undoing

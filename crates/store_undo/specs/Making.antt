@@ -1,6 +1,6 @@
 -- For the helpers of `undo`: what is opened and what is made before anything is stored. Read it from the end:
--- `fault_of`, `IsMakingFault`, `IsMade`, `AreTexts`, `UndoneBy`, then `StoodTwice`.
-use Rattle.std.specs.Prelude.{◌≡◌, ℕ, ◌-◌, List, ◌++◌, length, take, codes, nat_lt, if◌then◌else◌, Option, Some, Ok}
+-- `fault_of`, `IsMade`, `AreTexts`, `UndoneBy`, then `StoodTwice`.
+use Rattle.std.specs.Prelude.{◌≡◌, ℕ, ◌-◌, List, ◌++◌, length, take, codes, nat_lt, if◌then◌else◌, Some, Ok}
 use Rattle.edit_json.specs.WordJson.{tree_of_word}
 use Rattle.answer_text.specs.Lines.{tree_line}
 use Rattle.run_answers.specs.Answers.{state_lines}
@@ -16,13 +16,13 @@ use Rattle.store_session.specs.Stands.{Standing, stands}
 use Rattle.store_session.specs.Standings.{standing}
 use Rattle.store_session.specs.StoredStates.{HasSnapshot, state_with}
 use Rattle.store_session.specs.StoredStates as states
-use Rattle.store_run.specs.declared.refusals.StoreRefusal.{StoreRefusal}
 use Rattle.store_run.specs.declared.refusals.StoreRefusal.TheVariants.{BadRecord, NotConsistent}
-use Rattle.store_undo.specs.Undoing.{Undoing, undoing}
+use Rattle.store_run.specs.Making as making
+use Rattle.store_run.specs.declared.undo_session.Making.{Making}
+use Rattle.store_run.specs.declared.undo_session.MakingFault.{MakingFault}
+use Rattle.store_run.specs.declared.undo_session.MakingFault.TheVariants.{Refused, NoMemory}
+use Rattle.store_undo.specs.Undoing.{undoing}
 use Rattle.store_undo.specs.UndoRecords.{undo_text, version_due, undo_snapshot_text, TakesBack}
-use Rattle.store_undo.specs.declared.making.MakingFault.{MakingFault}
-use Rattle.store_undo.specs.declared.making.MakingFault.TheVariants.{Refused, NoMemory}
-use Rattle.store_undo.specs.declared.making.Making.{Making}
 use Rattle.store_undo.specs.declared.opening.OpenedTwice.{OpenedTwice}
 use Rattle.store_run.specs.declared.storing.MoreText.{MoreText}
 use Rattle.edit_undo.specs.Undone.{BothTrees, undone}
@@ -54,18 +54,10 @@ pub record AreTexts (l : FormTree) (t : TripleTree) (words : BothTrees) (made : 
       ++ (tree_line (codes "undo right") (tree_of_word words.right) ++ state_lines l t)
 
 -- what is made is what undoing the last changes of these payloads stores and writes
-pub record IsMade (count : ℕ) (held : List (List ℕ)) (made : Making) : Type 0 where
-  pub u : Undoing
-  pub is : undoing count held ≡ Some u
-  pub version : made.version ≡ version_due u.now.version
-  pub snapshot : made.texts.payload ≡ undo_snapshot_text u
-  pub lines : made.texts.lines ≡ undo_text u
-  pub takes_back : TakesBack held u
-
--- the refusal is the one that there is; running out of memory says nothing
-abbrev pub IsMakingFault : Option StoreRefusal → MakingFault → Type 0
-IsMakingFault wanted (Refused refusal) = wanted ≡ Some refusal
-IsMakingFault wanted NoMemory = Unit {0}
+abbrev pub IsMade : ℕ → List (List ℕ) → Making → Type 0
+IsMade count held made =
+    making.IsMade (undoing count held) (λ u. version_due u.now.version) undo_snapshot_text undo_text (TakesBack held)
+    made
 
 -- the fault of a reopening in these words
 abbrev pub fault_of : RecordFault → MakingFault

@@ -1,5 +1,5 @@
 -- The records that `undo` stores and the lines that it writes, and what they are worth.
--- Read it from the end: `TakesBack`, `new_records`, `undo_text`.
+-- Read it from the end: `TakesBack`, `RepresentsNow`, `new_records`, `undo_text`.
 use Rattle.std.specs.Prelude.{◌≡◌, ℕ, List, [], ◌∷◌, ◌++◌, codes, nat_eq, if◌then◌else◌, Option, Some, None}
 use Rattle.std.specs.Prelude.{option_to_list, Ok}
 use Rattle.serde_json.specs.Written.{compact_text}
@@ -42,6 +42,10 @@ abbrev pub new_records : Undoing → List (List ℕ)
 new_records u = option_to_list (version_due u.now.version) ++ undo_snapshot_text u ∷ []
 
 -- ---- what they are worth
+
+-- the payloads represent what there is now, in a store of either version
+abbrev pub RepresentsNow : List (List ℕ) → Undoing → Type 0
+RepresentsNow payloads u = (version : ℕ) × (stands payloads ≡ Ok (record u.now { version = version }))
 
 -- The words act on the documents that there are now, and make those from before the last changes. These are consistent
 -- with their complement, and with the new records behind the payloads they are what the store represents.

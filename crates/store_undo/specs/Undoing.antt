@@ -1,8 +1,7 @@
 -- What undoing the last changes of a store comes to, or why the store is refused.
--- Read it from the end: `undo_refusal_in`, `undo_refusal`, `undoing`, then `last_changes`.
+-- Read it from the end: `undo_refusal`, `undoing`, then `last_changes`.
 use Rattle.std.specs.Prelude.{ℕ, ◌-◌, List, [], ◌∷◌, length, take, drop, nat_lt, if◌then◌else◌, Option, Some, None}
 use Rattle.std.specs.Prelude.{option_map, option_and_then, Result, Ok, Err}
-use Rattle.gate_log.specs.LogBytes.{LogContent, payloads, not_a_log, bad_record, log_of}
 use Rattle.edit_module.specs.Changes.{ChangeTree}
 use Rattle.edit_journal.specs.EntryJson.{tree_of_text}
 use Rattle.edit_session.specs.Step.{TripleTree}
@@ -12,7 +11,7 @@ use Rattle.store_records.specs.RecordJson.{change_in}
 use Rattle.store_records.specs.declared.record_fault.RecordFault.{RecordFault}
 use Rattle.store_records.specs.declared.record_fault.RecordFault.TheVariants as reopening
 use Rattle.store_run.specs.declared.refusals.StoreRefusal.{StoreRefusal}
-use Rattle.store_run.specs.declared.refusals.StoreRefusal.TheVariants.{NotALog, BadRecord, NotConsistent, NothingToUndo}
+use Rattle.store_run.specs.declared.refusals.StoreRefusal.TheVariants.{BadRecord, NotConsistent, NothingToUndo}
 use Rattle.store_session.specs.Stands.{Standing, stands}
 use Rattle.edit_undo.specs.Undone.{BothTrees, undone}
 
@@ -78,12 +77,3 @@ refusal_of (Err reopening.NoMemory) changes = None
 -- why these payloads are refused, if they are
 abbrev pub undo_refusal : ℕ → List (List ℕ) → Option StoreRefusal
 undo_refusal count held = refusal_of (stands held) (last_changes count held)
-
-abbrev pub undo_refusal_of_log : ℕ → LogContent → Option StoreRefusal
-undo_refusal_of_log count (payloads held) = undo_refusal count held
-undo_refusal_of_log count not_a_log = Some NotALog
-undo_refusal_of_log count (bad_record number) = Some (BadRecord number)
-
--- why these bytes are refused, if they are
-abbrev pub undo_refusal_in : ℕ → List ℕ → Option StoreRefusal
-undo_refusal_in count bytes = undo_refusal_of_log count (log_of bytes)

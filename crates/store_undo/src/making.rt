@@ -5,7 +5,8 @@ ghost use Rattle.edit_session.specs.Step.{TripleTree, IsInStep};
 ghost use Rattle.lens_core.specs.Consistency.{IsConsistent};
 ghost use Rattle.edit_session.specs.Views.{triple_tree};
 ghost use Rattle.lens_forms.specs.Forms.{form_tree, left_type, right_type};
-ghost use Rattle.store_undo.specs.Making.{AreTexts, IsMade, IsMakingFault, StoodTwice, UndoneBy, fault_of};
+ghost use Rattle.store_run.specs.Making.{IsMakingFault};
+ghost use Rattle.store_undo.specs.Making.{AreTexts, IsMade, StoodTwice, UndoneBy, fault_of};
 ghost use Rattle.store_undo.specs.Undoing.{undo_refusal};
 ghost use Rattle.edit_undo.specs.Undone.{BothTrees, BringsBack};
 ghost use Rattle.edit_undo.specs.UndoneViews.{both_tree, change_trees};
@@ -20,42 +21,14 @@ use lens_flat::Flat;
 use lens_io::Payloads;
 use std::alloc::{AllocError, Global};
 use store_records::RecordFault;
-use store_run::{MoreText, StoreRefusal};
-use texts::Bytes;
-
-// What is stored and written: the version record, if there is one to store, the snapshot and the lines.
-#[derive(Drop)]
-pub(crate) struct Making {
-    pub(crate) version: Option<Bytes>,
-    pub(crate) texts: MoreText,
-}
-
-/// Why nothing is made of payloads.
-#[derive(Clone, Copy, Debug, PartialEq, Eq)]
-pub enum MakingFault {
-    /// The payloads are refused.
-    Refused(StoreRefusal),
-    /// Memory ran out.
-    NoMemory,
-}
-
-impl From<AllocError> for MakingFault {
-    ghost use Rattle.std.specs.Prelude.{◌≡◌};
-    ghost use Rattle.store_undo.specs.declared.making.MakingFault.TheVariants.{NoMemory};
-
-    ghost from_gives = { λ _ fault. fault ≡ NoMemory };
-
-    fn from(_: AllocError) -> MakingFault {
-        MakingFault::NoMemory
-    }
-}
+use store_run::{Making, MakingFault, MoreText, StoreRefusal};
 
 // What `undo` stores and writes over these payloads, or why they are refused.
-pub(crate) fn make(alloc: Global, count: u64, payloads: Payloads) -> Result<Making, MakingFault>
-    ensures { MatchResult result (IsMade count payloads) (IsMakingFault (undo_refusal count payloads)) }
+pub(crate) fn make(alloc: Global, count: u64, payloads: &Payloads) -> Result<Making, MakingFault>
+    ensures { MatchResult result (IsMade count payloads.now) (IsMakingFault (undo_refusal count payloads.now)) }
 {
-    match open(alloc, count, &payloads) {
-        Ok(opened) => make_opened(alloc, count, &payloads, opened),
+    match open(alloc, count, payloads) {
+        Ok(opened) => make_opened(alloc, count, payloads, opened),
         Err(fault) => Err(making_fault(fault)),
     }
 }

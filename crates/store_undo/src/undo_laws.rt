@@ -4,11 +4,13 @@ ghost use Rattle.std.specs.Prelude.{◌≡◌, ◌++◌, ℕ, List, Some, None, 
 ghost use Rattle.gate_log.specs.LogOnDisk.{HoldsPayloads};
 ghost use Rattle.edit_session.specs.Step.{IsInStep};
 ghost use Rattle.lens_core.specs.Consistency.{IsConsistent};
+ghost use Rattle.store_run.specs.UndoCall.{undo_refusal_in};
 ghost use Rattle.store_run.specs.declared.refusals.StoreRefusal.{StoreRefusal};
 ghost use Rattle.store_run.specs.declared.refusals.StoreRefusal.TheVariants.{NothingToUndo};
 ghost use Rattle.store_session.specs.Stands.{Standing, stands};
 ghost use Rattle.store_undo.specs.UndoRecords.{new_records, TakesBack};
-ghost use Rattle.store_undo.specs.Undoing.{Undoing, undoing, undo_refusal, undo_refusal_in, last_changes};
+ghost use Rattle.store_undo.specs.contracts.instance.PairUndoUndoneSession.TheImpl.{ghosts as pairs};
+ghost use Rattle.store_undo.specs.Undoing.{Undoing, undoing, undo_refusal, last_changes};
 ghost use Rattle.store_undo.specs.Undoing.{payloads_before};
 
 /// A disk of known bytes is refused by `undo`, or its last changes are undone, and never both.
@@ -20,7 +22,7 @@ ghost use Rattle.store_undo.specs.Undoing.{payloads_before};
 /// - `before`: payloads that are undone represent a session, and `undo` stores the triple that those before the last
 ///   changes represent.
 pub fn undone_or_refused()
-    ensures undone { (count : ℕ) (bytes : List ℕ) → undo_refusal_in count bytes ≡ None
+    ensures undone { (count : ℕ) (bytes : List ℕ) → undo_refusal_in pairs count bytes ≡ None
         → (held : List (List ℕ)) × (u : Undoing) × HoldsPayloads held bytes × (undoing count held ≡ Some u) }
     ensures refused { (count : ℕ) (held : List (List ℕ)) (refusal : StoreRefusal)
         → undo_refusal count held ≡ Some refusal → undoing count held ≡ None }

@@ -2,7 +2,7 @@ use Rattle.std.proofs.Common.{sym, subst}
 use Rattle.hub_undo.specs.HubUndoing.{hub_undo_refusal}
 use Rattle.hub_undo.proofs.Makings.{refused_fault}
 use Rattle.hub_undo.proofs.making.make.Goals as goal
-use Rattle.store_undo.specs.Making.{IsMakingFault}
+use Rattle.store_run.specs.Making.{IsMakingFault}
 
 pub make_opened-requires : goal.make_opened-requires
 make_opened-requires c = record { stood = c.in-Ok.ensures }

@@ -26,7 +26,7 @@ returns c =
     let twice = c.args.twice in
     let changes = change_trees c.as_slice.result.now in
     let last : last_hub_changes c.args.count c.args.records.now ≡ Some changes = sym (rw c.in-Some.is at c.in_ok-changes.ensures) ∙ ap (λ x. Some (change_trees x)) (sym c.as_slice.ensures.value) in
-    made_of c.args.count c.args.records.now changes twice c.requires.stood last c.in_ok-more.more (rw (c.replace.ensures.lenses, c.replace.ensures.parts) at c.in_ok-more.ensures)
+    made_of c.args.count c.args.records.now changes twice c.requires.stood last c.in_ok-texts.texts (rw (c.replace.ensures.lenses, c.replace.ensures.parts) at c.in_ok-texts.ensures)
 
 pub returns-in_default : goal.returns-in_default
 returns-in_default c =
