@@ -164,16 +164,20 @@ fn way_as_tree(alloc: Global, lens: &Typed, parts: &Parts<'_>) -> Result<Way> {
 
 // Whether the trees are a complement and documents of the lens.
 fn is_snapshot(alloc: Global, lens: &Typed, parts: &Parts<'_>) -> Result<bool> {
-    Ok(is_comp(alloc, lens, parts.comp)?
-        && is_doc(alloc, lens.left(), parts.left)?
-        && is_doc(alloc, lens.right(), parts.right)?)
+    Ok(
+        is_comp(alloc, lens, parts.comp)?
+            && is_doc(alloc, lens.left(), parts.left)?
+            && is_doc(alloc, lens.right(), parts.right)?,
+    )
 }
 
 // Whether the trees are those of a triple of the lens.
 fn is_triple_of(alloc: Global, lens: &Typed, triple: &Triple, parts: &Parts<'_>) -> Result<bool> {
-    Ok(is_comp_of(alloc, lens, &triple.comp, parts.comp)?
-        && is_doc_of(alloc, lens.left(), &triple.left, parts.left)?
-        && is_doc_of(alloc, lens.right(), &triple.right, parts.right)?)
+    Ok(
+        is_comp_of(alloc, lens, &triple.comp, parts.comp)?
+            && is_doc_of(alloc, lens.left(), &triple.left, parts.left)?
+            && is_doc_of(alloc, lens.right(), &triple.right, parts.right)?,
+    )
 }
 
 fn is_doc_of(alloc: Global, ty: &Ty, doc: &Doc, tree: &Value) -> Result<bool> {

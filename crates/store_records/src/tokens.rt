@@ -88,10 +88,7 @@ pub fn change_by_tokens(alloc: Global, payload: &[u8], scratch: &mut Scratch) ->
 /// The text of the program and the version of a store, of its first payload. `None` says nothing of the payload.
 ///
 /// The scratch may hold anything. Room in it is kept for the next payload.
-pub fn opening_by_tokens<'a>(
-    payload: &'a [u8],
-    scratch: &'a mut Scratch,
-) -> Option<(&'a str, u64)>
+pub fn opening_by_tokens<'a>(payload: &'a [u8], scratch: &'a mut Scratch) -> Option<(&'a str, u64)>
     ensures { IfSome result (λ o. opening_of_payload payload.now ≡ Some (o.0.now, o.1)) }
 {
     let mut reader = reader_of(payload, scratch)?;
