@@ -6,10 +6,13 @@ use both_ways::{BothWays, Changes, Openings, Rows, Snapshots};
 use lens_io::Payloads;
 use serde_json::Value;
 use std::alloc::Global;
-use store_records::{RecordFault, StoredLens, stored_lens};
+use store_records::{RecordFault, StoredLens, read_tree, snapshot_in, stored_lens};
 
 // How many damaged copies of a payload are read.
 const COPIES: u64 = 12;
+
+// How many of a snapshot, since few payloads are one.
+const COPIES_OF_SNAPSHOTS: u64 = 200;
 
 /// How the payloads of rows were read.
 #[derive(Drop)]
@@ -25,11 +28,12 @@ impl RowWays {
         RowWays {
             openings: BothWays::new(alloc, COPIES),
             changes: BothWays::new(alloc, COPIES),
-            snapshots: BothWays::new(alloc, COPIES),
+            snapshots: BothWays::new(alloc, COPIES_OF_SNAPSHOTS),
         }
     }
 
-    // Reads the payloads of a store: the first as an opening, and each other one as a change and as a snapshot.
+    // Reads the payloads of a store: the first as an opening, each other one as a change, and a snapshot as one of the
+    // store's lens, too.
     fn take_payloads(&mut self, alloc: Global, payloads: &Payloads) -> Result<()> {
         let Some(first) = payloads.as_slice().first() else {
             return Ok(());
@@ -60,9 +64,19 @@ impl RowWays {
             lens: &stored.typed,
         };
         for payload in payloads.as_slice().iter().skip(1) {
-            self.snapshots.take(alloc, &snapshots, payload.as_slice())?;
+            if is_snapshot(alloc, payload.as_slice())? {
+                self.snapshots.take(alloc, &snapshots, payload.as_slice())?;
+            }
         }
         Ok(())
+    }
+}
+
+// Whether a payload has the form of a snapshot, whatever its parts are.
+fn is_snapshot(alloc: Global, payload: &[u8]) -> Result<bool> {
+    match read_tree(alloc, payload)? {
+        Some(tree) => Ok(snapshot_in(&tree).is_some()),
+        None => Ok(false),
     }
 }
 
