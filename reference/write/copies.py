@@ -1,5 +1,6 @@
 """Writes rows of `compact` and `copy` for case_copies. Each step is worked out by hand, and its stores are put together from their payloads."""
 
+from ..steps import write_step
 from ..stores import MARK, entry, log, program
 from .stores import ADD, BOOK_CANONICAL, BOOK_STATE, BOOK_WORDS, GROUP, PLAIN, SET, STATE, step
 from .undo import snapshot
@@ -88,10 +89,20 @@ def taken():
     """The other disk is not empty, which is found before anything is read."""
     for bytes_of_store in (b"", log(program(PLAIN)), log("{}")):
         for word in ("compact", "copy"):
-            yield step([word, "onto-another"], 4, "", "store refused: log-exists\n", bytes_of_store)
+            yield step([word, "taken"], 4, "", "store refused: log-exists\n", bytes_of_store)
+
+
+def faults():
+    """The other disk fails, or the sink does: then the store from before is there as it was."""
+    held = log(program(PLAIN), entry("left", SET))
+    for word in ("compact", "copy"):
+        for when in ("fails-at-once", "fails-later"):
+            yield step([word, when], 7, "", "", held)
+        for bytes_of_store, words in ((held, [word]), (held[:-1], [word]), (held, [word, "taken"])):
+            yield write_step(words, 6, b"", b"", stores=(bytes_of_store, bytes_of_store), devices={"sink_fails": [0]})
 
 
 def files():
     """The file of cases."""
-    parts = (versions, states, book, refused, taken)
+    parts = (versions, states, book, refused, taken, faults)
     yield "case_copies/data/copies.cases", b"".join(row for part in parts for row in part())

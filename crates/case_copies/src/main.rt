@@ -30,27 +30,27 @@ impl Commands for Copies {
         disk: &mut MemDisk,
     ) -> u8 {
         let word = if words.len() > 1 { words[1].as_str() } else { "" };
+        let other = if words.len() > 2 { words[2].as_str() } else { "" };
         let status = if word == "show" {
             show::<StoreSession, MemSink, MemDisk>(alloc, sink, disk)
         } else if word == "verify" {
             verify::<StoreSession, MemSink, MemDisk>(alloc, sink, disk)
         } else {
-            remake(alloc, word, words.len() > 2, sink, disk)
+            remake(alloc, word, other, sink, disk)
         };
         status.code()
     }
 }
 
-// Makes a store anew on another disk, which holds a byte already if that is said. The store that was made comes in the
-// place of the one from before.
+// Makes a store anew on another disk. The store that was made comes in the place of the one from before.
 fn remake(
     alloc: Global,
     word: &str,
-    is_taken: bool,
+    other: &str,
     sink: &mut MemSink,
     disk: &mut MemDisk,
 ) -> Status {
-    let Ok(mut made) = other_disk(alloc, is_taken) else {
+    let Ok(mut made) = other_disk(alloc, other) else {
         return Status::NoMemory;
     };
     let status = if word == "compact" {
@@ -66,11 +66,15 @@ fn remake(
     status
 }
 
-// A disk with no bytes, or with one.
-fn other_disk(alloc: Global, is_taken: bool) -> Result<MemDisk, AllocError> {
-    let mut bytes = Vec::new(alloc);
-    if is_taken {
+// An empty disk. By these words it has a byte, or its first call fails, or its fourth.
+fn other_disk(alloc: Global, other: &str) -> Result<MemDisk, AllocError> {
+    let (mut bytes, mut fails) = (Vec::new(alloc), Vec::new(alloc));
+    if other == "taken" {
         bytes.push(0u8)?;
+    } else if other == "fails-at-once" {
+        fails.push(0u64)?;
+    } else if other == "fails-later" {
+        fails.push(3u64)?;
     }
-    MemDisk::new(alloc, Bytes::from_vec(bytes), Vec::new(alloc))
+    MemDisk::new(alloc, Bytes::from_vec(bytes), fails)
 }

@@ -1,2 +1,1 @@
-pub mod NewPayloadsMade
 pub mod RemakeEndsHold

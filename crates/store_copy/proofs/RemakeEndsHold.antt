@@ -14,7 +14,7 @@ use Rattle.store_new.specs.NewEnds.{GivesLine}
 use Rattle.store_new.specs.NewRooms.{PlanHasNoRoom}
 use Rattle.store_new.specs.NewStores.{EndsMaking, IsTooLong}
 use Rattle.store_copy.specs.RemakeEnds.{EndsRemade, EndsUnmade, FailsBefore, IsRemade}
-use Rattle.store_copy.specs.Remakes.{RemakesStore}
+use Rattle.store_copy.specs.Remakes.{KeepsOther, RemakesStore}
 use Rattle.command_ends.specs.Statuses.{IsStatusAmong, quiet_statuses}
 use Rattle.command_ends.specs.declared.status.Status.{Status}
 use Rattle.command_ends.specs.declared.status.Status.TheVariants.{Done, SomeRefused, Usage, ProgramRefused, StoreRefused, SourceFault, SinkFault, DiskFault, InputTooLong, NoMemory}
@@ -30,18 +30,23 @@ some_bytes None count some is = tt
 some_bytes (Some []) count some is = absurd (some is)
 some_bytes (Some (byte ∷ bytes)) count some is = omega arith
 
+-- this many bytes, which is 0
+pub no_bytes : (o : Option (List ℕ)) (count : ℕ) → count ≡ 0 → IfSome o (λ bytes. count ≡ length bytes) → IfSome o (λ bytes. length bytes ≡ 0)
+no_bytes None count none is = tt
+no_bytes (Some bytes) count none is = omega (arith, none, is)
+
 -- an empty disk has no bytes
-pub if_other : (o : Option (List ℕ)) (R : Type 0) → IfSome o (λ bytes. length bytes ≡ 0) → IfSome o (λ bytes. 0 < length bytes → R)
+if_other : (o : Option (List ℕ)) (R : Type 0) → IfSome o (λ bytes. length bytes ≡ 0) → IfSome o (λ bytes. 0 < length bytes → R)
 if_other None R empty = tt
 if_other (Some bytes) R empty = λ some. absurd (omega (arith, empty, some))
 
-pub whatever : (o : Option (List ℕ)) (R : Type 0) → R → IfSome o (λ bytes. 0 < length bytes → R)
+whatever : (o : Option (List ℕ)) (R : Type 0) → R → IfSome o (λ bytes. 0 < length bytes → R)
 whatever None R r = tt
 whatever (Some bytes) R r = λ some. r
 
 pub room_unknown : (o : Option ℕ) (P : ℕ → Type 0) → IsNone o → IfSome o P
 room_unknown None P none = tt
-room_unknown (Some room) P none = absurd none
+room_unknown (Some room) P none = cc
 
 -- ---- the statuses
 
@@ -104,6 +109,9 @@ pub failed_first : {K D E : Type 0} (sink : OfSink.Ghosts K) (from : OfDisk.Ghos
     → FailsBefore sink from to (k, d, e) (k, d, e') DiskFault
 failed_first sink from to k d e e' unwritten unknown = record { unwritten = unwritten; fails = (inl refl, Appends-nil (sink.held k)); sure = λ is. inr unknown }
 
+pub keeps_failed : {K D E : Type 0} (sink : OfSink.Ghosts K) (from : OfDisk.Ghosts D) (to : OfDisk.Ghosts E) (k : K) (d : D) (e e' : E) → IsUnwritten to e e' → KeepsOther sink from to (k, d, e) (k, d, e') DiskFault
+keeps_failed sink from to k d e e' u = whatever (to.content e) _ (refl, u, inr (refl, refl))
+
 module _ {K D E : Type 0} (sink : OfSink.Ghosts K) (from : OfDisk.Ghosts D) (to : OfDisk.Ghosts E) (k k' : K) (d d' : D) (status : Status) where
   module _ (e : E) where
     -- a store was not opened
@@ -122,6 +130,13 @@ module _ {K D E : Type 0} (sink : OfSink.Ghosts K) (from : OfDisk.Ghosts D) (to 
     remade P payloads line planned empty (inl taken) = inl taken
     remade P payloads line planned empty (inr ends) =
         inr (inr (record { was_empty = empty; payloads = payloads; line = line; planned = planned; ends = ends }))
+
+    -- what is promised over another disk that is not empty
+    pub keeps_empty : IfSome (to.content e) (λ bytes. length bytes ≡ 0) → KeepsOther sink from to (k, d, e) (k', d', e') status
+    keeps_empty empty = if_other (to.content e) _ empty
+
+    pub keeps_given : IsUnwritten to e e' → GivesLine sink k k' (refusal_line LogExists) StoreRefused status → KeepsOther sink from to (k, d, e) (k', d, e') status
+    keeps_given u given = whatever (to.content e) _ (refl, u, inl given)
 
     -- behind a call that only tells the length of the other disk
     module _ (e1 : E) (u : IsUnwritten to e e1) (room : to.room e1 ≡ to.room e) where

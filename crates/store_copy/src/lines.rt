@@ -5,7 +5,11 @@ ghost use Rattle.store_copy.specs.NewPayloads.{compacted_line, copied_line};
 use std::alloc::{AllocError, Global};
 
 /// `compacted N M` and a line feed. The only error is running out of memory.
-pub(crate) fn compacted_line(alloc: Global, before: usize, after: usize) -> Result<Vec<u8>, AllocError>
+pub(crate) fn compacted_line(
+    alloc: Global,
+    before: usize,
+    after: usize,
+) -> Result<Vec<u8>, AllocError>
     ensures { IfOk result (λ line. line.items ≡ compacted_line before after) }
 {
     let line = format!(in alloc; "compacted {before} {after}\n")?;

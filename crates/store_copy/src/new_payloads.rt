@@ -55,12 +55,10 @@ fn unopened(fault: ReopenFault) -> OpenFault
     ensures { result ≡ fault_of_payloads fault }
 {
     match fault {
-        ReopenFault::BadRecord { number } => OpenFault::Refused(StoreRefusal::BadRecord {
+        ReopenFault::BadRecord { number } => OpenFault::Refused(StoreRefusal::BadRecord { number }),
+        ReopenFault::NotConsistent { number } => OpenFault::Refused(StoreRefusal::NotConsistent {
             number,
         }),
-        ReopenFault::NotConsistent { number } => OpenFault::Refused(
-            StoreRefusal::NotConsistent { number },
-        ),
         ReopenFault::NoMemory => OpenFault::NoMemory,
     }
 }

@@ -1,10 +1,10 @@
-use Rattle.std.proofs.Common.{◌≡◌, ◌⊎◌, inl, inr, ℕ, List, Option, IfSome, refl, subst, arith}
+use Rattle.std.proofs.Common.{inl, inr, ℕ, Option, IfSome, subst, arith}
 use Rattle.lens_io.proofs.Increases.{increased_since}
 use Rattle.store_run.proofs.Openings.{opening_none}
 use Rattle.store_new.proofs.Commands.{unwritten_by}
 use Rattle.store_new.specs.NewRooms.{PlanHasNoRoom}
 use Rattle.store_copy.specs.NewPayloads.{IsPlanned}
-use Rattle.store_copy.proofs.RemakeEndsHold.{failed_first, finds_other, given_quiet, if_other, never_at_disk, other_failed, remade_behind, room_unknown, some_bytes, store_remade, unmade_behind, whatever}
+use Rattle.store_copy.proofs.RemakeEndsHold.{failed_first, finds_other, given_quiet, keeps_empty, keeps_failed, keeps_given, never_at_disk, no_bytes, other_failed, remade_behind, room_unknown, some_bytes, store_remade, unmade_behind}
 use Rattle.store_run.specs.Refusals.{refusal_line}
 use Rattle.store_run.specs.declared.refusals.StoreRefusal.TheVariants.{LogExists}
 use Rattle.command_ends.specs.declared.status.Status.TheVariants.{DiskFault}
@@ -40,7 +40,7 @@ returns-in-Ok-eq0-clause-remakes g c =
           r.sink_fault
           (λ is. elim (r.disk_fault is) [ inl x ↦ inl x | inr x ↦ inr (increased_since (to.faults e) (to.faults e1) (to.faults e') c.len.ensures.cause.later x) ]);
       refuses = λ other. unmade_behind sink from to k k' d d' status e e' e1 u c.len.ensures.room other.reason (r.refused other);
-      exists = if_other (to.content e) _ (let h = c.in-Ok-eq0 in ?);
+      exists = keeps_empty sink from to k k' d d' status e e' (no_bytes (to.content e) c.in-Ok-eq0.field-0 c.in-Ok-eq0.field-0-test c.in-Ok-eq0.ensures.count);
       only_reads = r.opening.unwritten;
       survives = r.opening.moments;
     }
@@ -78,7 +78,7 @@ returns-in-Ok-clause-remakes g c =
           store_remade sink from to k k' d d status e e1 (IsPlanned session g.A.RemadeSession.beginning c.args.way store.payloads store.state store.version) (inl taken)
           (λ is. absurd (never_at_disk sink k k' status given is)) (other_failed sink k k' status c.give_line.ensures.sink_fault) (λ is. absurd (never_at_disk sink k k' status given is));
       refuses = λ other. inl taken;
-      exists = whatever (to.content e) _ (refl, u, inl given);
+      exists = keeps_given sink from to k k' d d status e e1 u given;
       only_reads = opening.unwritten;
       survives = opening.moments;
     }
@@ -112,7 +112,7 @@ returns-in-Err-clause-remakes g c =
           store_remade sink from to k k d d DiskFault e e1 (IsPlanned session g.A.RemadeSession.beginning c.args.way store.payloads store.state store.version) (inr (inl fails))
           (λ is. inr (room_unknown (to.room e) _ c.in-Err.ensures.sure)) (λ is. cc) (λ is. inr c.in-Err.ensures.cause.failed);
       refuses = λ other. inr (inl fails);
-      exists = whatever (to.content e) _ (refl, u, inr (refl, refl));
+      exists = keeps_failed sink from to k d e e1 u;
       only_reads = opening.unwritten;
       survives = opening.moments;
     }
