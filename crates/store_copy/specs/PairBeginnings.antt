@@ -1,5 +1,5 @@
 -- What a store of a pair of documents begins with that is made anew: `pair_beginning`.
-use Rattle.std.specs.Prelude.{ℕ, List, [], ◌++◌, take, Option, Some, None, option_to_list}
+use Rattle.std.specs.Prelude.{ℕ, List, ◌++◌, take, Option, Some, None, option_to_list}
 use Rattle.lens_forms.specs.Forms.{FormTree}
 use Rattle.store_records.specs.StoredLens.{stored_lens}
 use Rattle.store_session.specs.StoredStates.{version_for}

@@ -8,7 +8,7 @@ use Rattle.lens_core.specs.Complements.{missing}
 use Rattle.lens_forms.specs.Forms.{FormTree, left_type, right_type}
 use Rattle.lens_forms.specs.Typing.{is_typed}
 use Rattle.store_records.specs.RecordJson.{record_in, version_record}
-use Rattle.store_records.specs.StoredLens.{lens_and_version, stored_lens}
+use Rattle.store_records.specs.StoredLens.{lens_and_version}
 use Rattle.store_records.specs.declared.record_fault.RecordFault.{RecordFault}
 use Rattle.store_session.specs.Appending.{stands_append}
 use Rattle.store_session.specs.Standings.{standing}

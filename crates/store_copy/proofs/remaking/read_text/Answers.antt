@@ -1,4 +1,4 @@
-use Rattle.std.proofs.Common.{List, ℕ, MatchResult, refl, sym, ap, subst, ◌∙◌}
+use Rattle.std.proofs.Common.{MatchResult, refl, sym, ap, subst, ◌∙◌}
 use Rattle.store_run.proofs.StoreOpenings.{refused_by_log, same_payloads, unread_log}
 use Rattle.store_run.specs.Opening.{FailsToOpen}
 use Rattle.store_run.specs.Refusals.{refusal_of_log}
