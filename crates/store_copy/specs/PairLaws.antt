@@ -13,8 +13,8 @@ use Rattle.store_records.specs.declared.record_fault.RecordFault.{RecordFault}
 use Rattle.store_session.specs.Appending.{stands_append}
 use Rattle.store_session.specs.Standings.{standing}
 use Rattle.store_session.specs.Stands.{Standing, after_payloads, after_record, at_start, from_opening, going_on, stands}
-use Rattle.store_session.specs.StoredStates.{HasSnapshot, StoredState, changes_counted, counted, opened_as, snapshot_text}
-use Rattle.store_session.specs.StoredStates.{stands_for, state_of, version_for, version_text}
+use Rattle.store_session.specs.StoredStates.{HasSnapshot, StoredState, changes_counted, counted, opened_as}
+use Rattle.store_session.specs.StoredStates.{snapshot_text, stands_for, state_of, version_for, version_text}
 use Rattle.store_session.specs.TypedStores.{first_typed, form_stays}
 use Rattle.store_session.specs.VersionRecords.{version_in}
 use Rattle.store_session.specs.VersionsOfStores.{version_stood}
@@ -103,11 +103,11 @@ at_standing P ps t v (Err fault) e h all = cc
 pub snapshot_begins : (ps : List (List ℕ)) (t : StoredState) (v : Option (List ℕ)) → stands_for ps ≡ Ok (t, v)
     → HasSnapshot t → stands_for (pair_beginning ps ++ snapshot_text t ∷ []) ≡ Ok (t, None)
 snapshot_begins ps t v h =
-    at_standing (λ x. HasSnapshot x → stands_for (pair_beginning ps ++ snapshot_text x ∷ []) ≡ Ok (x, None)) ps t v (stands ps)
-    refl h (λ s e has. ap opened_as (compacted ps s e has))
+    at_standing (λ x. HasSnapshot x → stands_for (pair_beginning ps ++ snapshot_text x ∷ []) ≡ Ok (x, None)) ps t v
+    (stands ps) refl h (λ s e has. ap opened_as (compacted ps s e has))
 
 pub snapshot_forgets : (ps : List (List ℕ)) (t : StoredState) (v : Option (List ℕ)) → stands_for ps ≡ Ok (t, v)
     → HasSnapshot t → changes_counted (pair_beginning ps ++ snapshot_text t ∷ []) ≡ 0
 snapshot_forgets ps t v h =
-    at_standing (λ x. HasSnapshot x → changes_counted (pair_beginning ps ++ snapshot_text x ∷ []) ≡ 0) ps t v (stands ps) refl h
-    (λ s e has. ap counted (compacted ps s e has))
+    at_standing (λ x. HasSnapshot x → changes_counted (pair_beginning ps ++ snapshot_text x ∷ []) ≡ 0) ps t v (stands ps)
+    refl h (λ s e has. ap counted (compacted ps s e has))

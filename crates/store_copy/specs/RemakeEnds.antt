@@ -1,5 +1,5 @@
--- How a command ends that makes a store anew: what it wrote, and what the disks hold. Read it from the end: `EndsUnmade`
--- is over bytes that are refused, `EndsRemade` over a store, then their four cases.
+-- How a command ends that makes a store anew: what it wrote, and what the disks hold. Read it from the end: `IsRemade`
+-- is after `Done`, `EndsUnmade` over bytes that are refused, `EndsRemade` over a store, then their four cases.
 use Rattle.std.specs.Prelude.{◌≡◌, ◌⊎◌, ℕ, List, length, IfSome, IsNone}
 use Rattle.lens_io.specs.Calls.{Gave}
 use Rattle.lens_io.specs.declared.disk.Disk as OfDisk

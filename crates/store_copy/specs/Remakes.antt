@@ -46,9 +46,10 @@ module _ {K D E : Type 0} (sink : OfSink.Ghosts K) (from : OfDisk.Ghosts D) (to 
   module _ {A : Type 0} (session : OfSession.Ghosts A)
       (IsPlanned : List (List ℕ) → session.State → Option (List ℕ) → List (List ℕ) → List ℕ → Type 0) where
     pub record Remakes : Type 0 where
-      pub of_store : (store : Store from session old.1) → RemakesStore (IsPlanned store.payloads store.state store.version)
-      -- over bytes that are no store the line `store refused: REASON` was written, unless the other disk is not empty, a
-      -- device failed or memory ran out; nothing is written to either disk
+      pub of_store : (store : Store from session old.1)
+          → RemakesStore (IsPlanned store.payloads store.state store.version)
+      -- over bytes that are no store the line `store refused: REASON` was written, unless the other disk is not empty,
+      -- a device failed or memory ran out; nothing is written to either disk
       pub refuses : (other : RefusedStore from session old.1) → EndsUnmade sink from to old new status other.reason
       -- over another disk that is not empty
       pub exists : KeepsOther

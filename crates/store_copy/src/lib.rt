@@ -1,8 +1,9 @@
 //! The commands that make a store anew on another disk.
 //!
 //! [`compact`] makes a store of the state alone: what gives the lens, and one snapshot. [`copy`] makes one of the same
-//! records. Both only read the store that is there. specs/Remakes.antt has what they promise, and specs/NewPayloads.antt
-//! which payloads the new store has. A session says by [`RemadeSession`] what a new store of it begins with.
+//! records. Both only read the store that is there. specs/Remakes.antt has what they promise, and
+//! specs/NewPayloads.antt which payloads the new store has. A session says by [`RemadeSession`] what a new store of it
+//! begins with; a store of a pair does.
 #![tactic(auto)]
 
 mod lines;
