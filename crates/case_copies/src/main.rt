@@ -1,0 +1,80 @@
+//! Makes stores anew from files of cases, and compares what comes with what the files say.
+//!
+//! Words: the files, which lie in the folder where the program runs. Each gives one line, as `copies: 30 cases, 0
+//! differ`. Above it is what was wanted and what came for the first steps that differ. reference/CASES.md has the form
+//! of a file. The program fails where a case differs, and where a file is not readable or has no case.
+#![tactic(auto)]
+
+use case_files::{Commands, run_files};
+use command_ends::Status;
+use lens_io::{MemDisk, MemSink, MemSource};
+use std::alloc::{AllocError, Global};
+use store_copy::{compact, copy};
+use store_run::{show, verify};
+use store_session::StoreSession;
+use texts::Bytes;
+
+fn main(rt: HostRuntime) -> anyhow::Result<()> {
+    run_files::<Copies>(&rt)
+}
+
+// The commands of a file: `compact` and `copy`, and `show` and `verify` of the store that was made.
+struct Copies;
+
+impl Commands for Copies {
+    fn run(
+        alloc: Global,
+        words: &[String],
+        _source: &mut MemSource,
+        sink: &mut MemSink,
+        disk: &mut MemDisk,
+    ) -> u8 {
+        let word = if words.len() > 1 { words[1].as_str() } else { "" };
+        let other = if words.len() > 2 { words[2].as_str() } else { "" };
+        let status = if word == "show" {
+            show::<StoreSession, MemSink, MemDisk>(alloc, sink, disk)
+        } else if word == "verify" {
+            verify::<StoreSession, MemSink, MemDisk>(alloc, sink, disk)
+        } else {
+            remake(alloc, word, other, sink, disk)
+        };
+        status.code()
+    }
+}
+
+// Makes a store anew on another disk. The store that was made comes in the place of the one from before.
+fn remake(
+    alloc: Global,
+    word: &str,
+    other: &str,
+    sink: &mut MemSink,
+    disk: &mut MemDisk,
+) -> Status {
+    let Ok(mut made) = other_disk(alloc, other) else {
+        return Status::NoMemory;
+    };
+    let status = if word == "compact" {
+        compact::<StoreSession, MemSink, MemDisk, MemDisk>(alloc, disk, &mut made, sink)
+    } else if word == "copy" {
+        copy::<StoreSession, MemSink, MemDisk, MemDisk>(alloc, disk, &mut made, sink)
+    } else {
+        Status::Usage
+    };
+    if status == Status::Done {
+        *disk = made;
+    }
+    status
+}
+
+// An empty disk. By these words it has a byte, or its first call fails, or its fourth.
+fn other_disk(alloc: Global, other: &str) -> Result<MemDisk, AllocError> {
+    let (mut bytes, mut fails) = (Vec::new(alloc), Vec::new(alloc));
+    if other == "taken" {
+        bytes.push(0u8)?;
+    } else if other == "fails-at-once" {
+        fails.push(0u64)?;
+    } else if other == "fails-later" {
+        fails.push(3u64)?;
+    }
+    MemDisk::new(alloc, Bytes::from_vec(bytes), fails)
+}

@@ -1,0 +1,5 @@
+pub mod NewPayloads
+pub mod PairBeginnings
+pub mod PairLaws
+pub mod RemakeEnds
+pub mod Remakes

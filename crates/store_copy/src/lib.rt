@@ -1,0 +1,16 @@
+//! The commands that make a store anew on another disk.
+//!
+//! [`compact`] makes a store of the state alone: what gives the lens, and one snapshot. [`copy`] makes one of the same
+//! records. Both only read the store that is there. specs/Remakes.antt has what they promise, and
+//! specs/NewPayloads.antt which payloads the new store has. A session says by [`RemadeSession`] what a new store of it
+//! begins with; a store of a pair does.
+#![tactic(auto)]
+
+mod lines;
+mod new_payloads;
+mod pair_stores;
+mod remaking;
+mod session;
+
+pub use remaking::{compact, copy};
+pub use session::RemadeSession;
