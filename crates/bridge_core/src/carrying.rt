@@ -18,12 +18,12 @@ ghost use Rattle.bridge_core.specs.Laws.{BeginsAt, LeadsTo};
 use crate::bridge::{Bridge, Bridges};
 use crate::fault::CarryFault;
 use crate::laws::{a_carried_word_acts, a_text_is_utf8, only_what_is_gone_is_refused};
+use bridge_texts::{Splice, TextBridge};
 use doc_values::Ty;
 use edit_module::Cause;
 use edit_module::word::{Primitive, Word};
 use std::alloc::{AllocError, Global};
 use std::rc::Rc;
-use bridge_texts::{Splice, TextBridge};
 use texts::{Name, Str, Twin};
 
 /// A word for the far document, and the bridge behind it.
@@ -296,8 +296,8 @@ fn on_arm(
     ensures { MatchResult result
         (λ it. carry_primitive (ty_tree ty.now) (arm tag.now (bridge_tree bridge.now)) (primitive_tree primitive.now)
         ≡ Ok (carried_tree it))
-        (λ fault. IsNotCarried
-        (carry_primitive (ty_tree ty.now) (arm tag.now (bridge_tree bridge.now)) (primitive_tree primitive.now)) fault) }
+        (λ fault. IsNotCarried (carry_primitive (ty_tree ty.now) (arm tag.now (bridge_tree bridge.now))
+        (primitive_tree primitive.now)) fault) }
 {
     match primitive {
         Primitive::Stay(held, word) => stayed(alloc, ty, tag, bridge, held, word),
@@ -317,8 +317,8 @@ fn stayed(
     word: &Word,
 ) -> Result<CarriedWord, CarryFault>
     ensures { MatchResult result
-        (λ it. carry_stay (ty_tree ty.now) tag.now (bridge_tree bridge.now) held.now (λ t b. carry t b (word_tree word.now))
-        ≡ Ok (carried_tree it))
+        (λ it. carry_stay (ty_tree ty.now) tag.now (bridge_tree bridge.now) held.now
+        (λ t b. carry t b (word_tree word.now)) ≡ Ok (carried_tree it))
         (λ fault. IsNotCarried (carry_stay (ty_tree ty.now) tag.now (bridge_tree bridge.now) held.now
         (λ t b. carry t b (word_tree word.now))) fault) }
 {
