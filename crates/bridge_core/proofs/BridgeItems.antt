@@ -40,11 +40,11 @@ set-past (y ∷ xs) (suc i) x h = ap (λ ys. y ∷ ys) (set-past xs i x (omega a
 pub without-place : (bs : List Bridge) (i : ℕ) (b : Bridge) → length bs ≤ i → bridges_of (map bridge_tree bs) ≡ put_bridge_at (bridges_of (map bridge_tree bs)) i (bridge_tree b)
 without-place bs i b h = ap (λ (cs : List Bridge). bridges_of (map bridge_tree cs)) (sym (set-past bs i b h)) ∙ with-place bs i b
 
-pub ruleset place_rules = (bridges_tree-out, at-place, past-place, with-place, without-place)
+pub ruleset place_rules = (bridges_tree-out, with-place, without-place)
 
 -- ---- for each document the bridge to itself
 
-bridge_tree-Same : bridge_tree Same ≡ same
+pub bridge_tree-Same : bridge_tree Same ≡ same
 bridge_tree-Same = search (rules, bridge_lemmas)
 
 pub same-more : (bs cs : List Bridge) (n : ℕ) → map bridge_tree bs ≡ replicate n same → cs ≡ bs ++ Same ∷ [] → map bridge_tree cs ≡ replicate (n + 1) same

@@ -1,5 +1,5 @@
 -- The walks over a word, and what the calls promise.
-use Rattle.std.proofs.Common.{◌≡◌, ℕ, zero, suc, ◌+◌, ◌<◌, ◌≤◌, Bool, true, List, [], ◌∷◌, ◌++◌, length, map, drop, get_or, Result, Ok, Err, refl, sym, ap, subst, ◌∙◌, arith}
+use Rattle.std.proofs.Common.{◌≡◌, ℕ, zero, suc, ◌+◌, ◌<◌, ◌≤◌, Bool, true, List, [], ◌∷◌, ◌++◌, length, map, drop, get_or, Result, Ok, Err, refl, sym, ap, subst, ◌∙◌, arith, rules}
 use Rattle.std.specs.Prelude.{IfOk, IfErr, MatchResult}
 use Rattle.std.specs.Str.{is_utf8, IsUtf8}
 use Rattle.std.proofs.lemmas.Str.{is_utf8-from_IsUtf8}
@@ -7,17 +7,19 @@ use Rattle.std.proofs.lemmas.List.{drop_all}
 use Rattle.doc_values.specs.Documents.{DocTree}
 use Rattle.doc_values.specs.Types.{TyTree, is_well_formed}
 use Rattle.doc_values.specs.Typing.{has}
-use Rattle.edit_module.specs.declared.word.Primitive.{Primitive}
-use Rattle.edit_module.specs.Words.{WordTree, no_primitives, more_primitives, word_of, joined}
+use Rattle.edit_module.specs.declared.word.Primitive.{Primitive, the_lemmas as primitive_lemmas}
+use Rattle.edit_module.specs.declared.word.Primitive.TheVariants.{Stay}
+use Rattle.edit_module.specs.declared.word.Word.{Word}
+use Rattle.edit_module.specs.Words.{PrimitiveTree, stay, WordTree, no_primitives, more_primitives, word_of, joined}
 use Rattle.edit_module.specs.Depths.{primitive_depth, word_depth}
 use Rattle.edit_module.specs.Views.{primitive_tree, word_tree}
 use Rattle.edit_module.specs.Action.{act, act_primitive, inner}
 use Rattle.edit_module.proofs.Words.{joined_assoc, left_primitives}
 use Rattle.edit_module.proofs.JoinedWords.{joined_nothing}
 use Rattle.edit_module.proofs.WordSteps.{later-none, later-more}
-use Rattle.bridge_core.specs.Bridges.{BridgeTree, same, bridge_tree}
+use Rattle.bridge_core.specs.Bridges.{BridgeTree, same, arm, bridge_tree}
 use Rattle.bridge_core.specs.Bridged.{led_on, bridge, bridge_primitive}
-use Rattle.bridge_core.specs.Carried.{gone, fails, Answer, in_front, then_carry, carry, carry_primitive}
+use Rattle.bridge_core.specs.Carried.{gone, fails, Answer, carry_stay, in_front, then_carry, carry, carry_primitive}
 use Rattle.bridge_core.specs.Spans.{Spans}
 use Rattle.bridge_core.specs.Laws.{BridgeSpans, CarriedActs, OnlyGoneIsRefused, BeginsAt, LeadsTo, SpansValue}
 use Rattle.bridge_core.specs.Refusals.{carried_tree, IsNotCarried, IsGone}
@@ -43,12 +45,8 @@ pub refused-gone : OnlyGoneIsRefused → (t : TyTree) (b : BridgeTree) (w : Word
 refused-gone law t b w (Ok it) h = tt
 refused-gone law t b w (Err fault) h = λ s v k e. is-gone law t b w fault h s v k e
 
-pub ruleset acts_rules = (carried-acts, refused-gone)
-
 pub value-spans : BridgeSpans → (t : TyTree) (w : WordTree) (b : BridgeTree) (v u : DocTree) → is_well_formed t ≡ true → has t v ≡ true → act t w v ≡ Ok u → b ≡ bridge t w v same → SpansValue b t v (act t w v)
 value-spans law t w b v u sound h e is = rw (e, is) (law t w same v v u sound h h refl e)
-
-pub ruleset spans_rules = (value-spans)
 
 -- ---- the loop of carry
 
@@ -85,6 +83,17 @@ pub carry-refused : (t : TyTree) (ps : List Primitive) (i : ℕ) (p : Primitive)
 carry-refused t ps i p b u whole Gone h is e k = sym e ∙ carry-stop t ps i p b u (Err gone) h is k
 carry-refused t ps i p b u whole (NoApply cause) h is e k = sym e ∙ carry-stop t ps i p b u (Err (fails cause)) h is k
 carry-refused t ps i p b u whole NoMemory h is e k = tt
+
+-- a primitive that edits the content of a tag
+primitive_tree-Stay : (a : List ℕ) (w : Word) → primitive_tree (Stay a w) ≡ stay a (word_tree w)
+primitive_tree-Stay a w = search (rules, primitive_lemmas)
+
+pub stay-row : (t : TyTree) (tag a : List ℕ) (b : BridgeTree) (w : Word) (p : Primitive) (r : Result CarriedWord CarryFault) → p ≡ Stay a w
+    → MatchResult r (λ it. carry_stay t tag b a (λ u c. carry u c (word_tree w)) ≡ Ok (carried_tree it)) (λ fault. IsNotCarried (carry_stay t tag b a (λ u c. carry u c (word_tree w))) fault)
+    → MatchResult r (λ it. carry_primitive t (arm tag b) (primitive_tree p) ≡ Ok (carried_tree it)) (λ fault. IsNotCarried (carry_primitive t (arm tag b) (primitive_tree p)) fault)
+stay-row t tag a b w p r is h =
+    let P : PrimitiveTree → Type 0 = λ q. MatchResult r (λ it. carry_primitive t (arm tag b) q ≡ Ok (carried_tree it)) (λ fault. IsNotCarried (carry_primitive t (arm tag b) q) fault) in
+    subst P (sym (ap primitive_tree is ∙ primitive_tree-Stay a w)) h
 
 -- ---- the loop of bridge
 

@@ -86,7 +86,6 @@ impl Bridges {
     }
 
     // The bridge of the field at a place. A field that is not there has the same content in both documents.
-    #[tactic(auto, using(crate::proofs::BridgeItems::place_rules))]
     pub(crate) fn at(&self, alloc: Global, place: usize) -> Result<Bridge, AllocError>
         ensures { IfOk result (λ b. bridge_tree b ≡ bridge_at (bridges_tree self.now) place) }
     {

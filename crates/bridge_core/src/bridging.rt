@@ -42,7 +42,6 @@ struct Made {
 ///   and only if the word does not act on the document, with the number and the cause that
 ///   [`act`](edit_module::act) has.
 /// - `spans`: the bridge leads from the document to the value of the word.
-#[tactic(auto, using(crate::proofs::Walks::spans_rules))]
 pub fn bridge_of(alloc: Global, ty: &Ty, word: &Word, doc: &Doc) -> Result<Bridge, ActFault>
     requires well_formed { is_well_formed (ty_tree ty.now) ≡ true }
     requires typed { has (ty_tree ty.now) (doc_tree doc.now) ≡ true }

@@ -10,7 +10,7 @@ ghost use Rattle.edit_module.specs.Views.{primitive_tree, word_tree};
 ghost use Rattle.edit_module.specs.Action.{act, inner};
 ghost use Rattle.bridge_core.specs.Bridges.{bridge_tree, bridges_tree, parts, arm, away, put_bridge_at};
 ghost use Rattle.bridge_core.specs.Carried.{carry, carry_primitive, carry_other, carry_lost, carry_text, carry_splice};
-ghost use Rattle.bridge_core.specs.Carried.{carry_stay, carry_left, carry_switch, passes, splices};
+ghost use Rattle.bridge_core.specs.Carried.{carry_stay, carry_left, carry_switch, passes, splices, splice_of};
 ghost use Rattle.bridge_core.specs.Refusals.{carried_tree, IsNotCarried, IsGone};
 ghost use Rattle.bridge_core.specs.Spans.{Spans};
 ghost use Rattle.bridge_core.specs.Laws.{BeginsAt, LeadsTo};
@@ -42,7 +42,6 @@ pub struct CarriedWord {
 ///   is gone in the far document: a text that was set, a container that was edited, or a tag that was left.
 /// - `acts`: if the word acts on the near document, the carried one acts on the far one, unless a sum does not fit
 ///   there, and the bridge leads from the one value to the other.
-#[tactic(auto, using(crate::proofs::Walks::acts_rules))]
 pub fn carry(
     alloc: Global,
     ty: &Ty,
@@ -225,9 +224,16 @@ fn splices(alloc: Global, pieces: Vec<Splice>) -> Result<Word, AllocError>
 {
     let mut out = Vec::new(alloc);
     for piece in pieces {
-        out.push(Primitive::Splice(piece.at, piece.count, piece.text))?;
+        out.push(splice_of(piece))?;
     }
     Ok(Word::from_vec(out))
+}
+
+// The primitive of a splice.
+fn splice_of(piece: Splice) -> Primitive
+    ensures { primitive_tree result ≡ splice_of piece }
+{
+    Primitive::Splice(piece.at, piece.count, piece.text)
 }
 
 // ---- records

@@ -1,11 +1,11 @@
-use Rattle.std.proofs.Common.{◌≡◌, ◌<◌, ◌≤◌, length, map, drop, sym, ap, ◌∙◌, arith}
+use Rattle.std.proofs.Common.{◌≡◌, ◌+◌, ◌<◌, ◌≤◌, length, map, drop, sym, ap, ◌∙◌, arith}
 use Rattle.doc_values.specs.Types.{ty_tree}
 use Rattle.edit_module.specs.Depths.{word_depth}
 use Rattle.edit_module.specs.Views.{primitive_tree, word_tree}
 use Rattle.edit_module.specs.Words.{WordTree, word_of}
 use Rattle.bridge_core.specs.Bridges.{BridgeTree, bridge_tree}
 use Rattle.bridge_core.specs.Carried.{in_front, carry}
-use Rattle.bridge_core.proofs.Walks.{front-none, carry-next, carry-refused, carry-done, part-depth}
+use Rattle.bridge_core.proofs.Walks.{front-none, carry-next, carry-refused, carry-done, stay-row, part-depth}
 use Rattle.bridge_core.proofs.carrying.+walk.Goals as goal
 
 pub walk-loop-i-init : goal.walk-loop-i-init
@@ -53,3 +53,7 @@ walk-step-requires t c =
     let deep = part-depth ps c.loop-i.i p within c.index-primitives-i.is in
     let same = ap word_depth c.as_slice-primitives.ensures in
     omega (arith, deep, same)
+
+pub on_arm-returns-in-Stay : goal.on_arm-returns-in-Stay
+on_arm-returns-in-Stay t c =
+    stay-row (ty_tree c.args.ty.now) c.args.tag.now c.in-Stay.held (bridge_tree c.args.bridge.now) c.in-Stay.word c.args.primitive.now c.stayed.result c.in-Stay.is c.stayed.ensures
