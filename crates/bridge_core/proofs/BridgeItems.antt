@@ -5,7 +5,7 @@ use Rattle.doc_values.specs.Documents.{DocTrees, no_docs, more_docs, doc_list}
 use Rattle.bridge_core.specs.declared.bridge.Bridge.{Bridge, the_lemmas as bridge_lemmas}
 use Rattle.bridge_core.specs.declared.bridge.Bridge.TheVariants.{Same}
 use Rattle.bridge_core.specs.declared.bridge.Bridges.{Bridges, out-Bridges, the_lemmas as bridges_lemmas}
-use Rattle.bridge_core.specs.Bridges.{BridgeTree, same, BridgeTrees, more_bridges, bridges_of, bridge_list, bridge_at, put_bridge_at, same_each, bridge_tree, bridges_tree}
+use Rattle.bridge_core.specs.Bridges.{BridgeTree, same, more_bridges, bridges_of, bridge_at, put_bridge_at, same_each, bridge_tree, bridges_tree}
 use Rattle.bridge_core.proofs.BridgeLists.{list-of-bridges}
 
 pub bridges_tree-out : (bs : Bridges) → bridges_tree bs ≡ bridges_of (map bridge_tree (out-Bridges bs).items.items)

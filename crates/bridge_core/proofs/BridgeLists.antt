@@ -1,8 +1,8 @@
 -- The bridges of the fields of a record.
-use Rattle.std.proofs.Common.{◌≡◌, ℕ, zero, suc, ◌+◌, Bool, true, false, List, [], ◌∷◌, set, get_or, Option, Some, None, refl, sym, ap, ◌∙◌, subst, one-add, inl, inr}
+use Rattle.std.proofs.Common.{◌≡◌, ℕ, ◌+◌, true, List, [], ◌∷◌, Some, refl, sym, ap, subst, one-add, inl, inr}
 use Rattle.std.specs.Prelude.{bytes_eq}
-use Rattle.texts.proofs.Conjunction.{first, second}
-use Rattle.doc_values.specs.Documents.{DocTree, unit, DocTrees, no_docs, more_docs, docs_of, doc_list}
+use Rattle.texts.proofs.Conjunction.{second}
+use Rattle.doc_values.specs.Documents.{DocTree, DocTrees, no_docs, more_docs}
 use Rattle.doc_values.specs.Types.{TyTree, FieldTrees, no_fields, more_fields}
 use Rattle.doc_values.specs.Typing.{has, has_fields, lookup_field}
 use Rattle.doc_values.proofs.FieldPlaces.{lookup_field_cases}

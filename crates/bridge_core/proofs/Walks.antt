@@ -1,5 +1,5 @@
 -- The walks over a word, and what the calls promise.
-use Rattle.std.proofs.Common.{◌≡◌, ℕ, zero, suc, ◌+◌, ◌<◌, ◌≤◌, Bool, true, List, [], ◌∷◌, ◌++◌, length, map, drop, get_or, Result, Ok, Err, refl, sym, ap, subst, ◌∙◌, arith, rules}
+use Rattle.std.proofs.Common.{◌≡◌, ℕ, zero, suc, ◌+◌, ◌<◌, ◌≤◌, true, List, [], ◌∷◌, length, map, drop, get_or, Result, Ok, Err, refl, sym, ap, subst, ◌∙◌, arith, rules}
 use Rattle.std.specs.Prelude.{IfOk, IfErr, MatchResult}
 use Rattle.std.specs.Str.{is_utf8, IsUtf8}
 use Rattle.std.proofs.lemmas.Str.{is_utf8-from_IsUtf8}
@@ -10,7 +10,7 @@ use Rattle.doc_values.specs.Typing.{has}
 use Rattle.edit_module.specs.declared.word.Primitive.{Primitive, the_lemmas as primitive_lemmas}
 use Rattle.edit_module.specs.declared.word.Primitive.TheVariants.{Stay}
 use Rattle.edit_module.specs.declared.word.Word.{Word}
-use Rattle.edit_module.specs.Words.{PrimitiveTree, stay, WordTree, no_primitives, more_primitives, word_of, joined}
+use Rattle.edit_module.specs.Words.{PrimitiveTree, stay, WordTree, no_primitives, word_of, joined}
 use Rattle.edit_module.specs.Depths.{primitive_depth, word_depth}
 use Rattle.edit_module.specs.Views.{primitive_tree, word_tree}
 use Rattle.edit_module.specs.Action.{act, act_primitive, inner}

@@ -5,7 +5,7 @@
 ghost use Rattle.std.specs.Prelude.{◌≡◌, ◌<◌, Ok, IfOk, MatchResult, true, length};
 ghost use Rattle.std.specs.Str.{is_utf8};
 ghost use Rattle.doc_values.specs.Documents.{doc_tree, docs_tree, doc_list, rec, alt};
-ghost use Rattle.doc_values.specs.Types.{ty_tree, fields_tree, is_well_formed, ty_rec, ty_alt};
+ghost use Rattle.doc_values.specs.Types.{ty_tree, is_well_formed};
 ghost use Rattle.doc_values.specs.Typing.{has};
 ghost use Rattle.edit_module.specs.Views.{primitive_tree, word_tree};
 ghost use Rattle.edit_module.specs.Action.{act, act_primitive, inner, put_at};

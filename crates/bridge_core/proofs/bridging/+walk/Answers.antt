@@ -1,10 +1,10 @@
-use Rattle.std.proofs.Common.{◌≡◌, ◌<◌, ◌≤◌, true, length, map, drop, sym, ap, ◌∙◌, arith}
+use Rattle.std.proofs.Common.{◌≡◌, ◌<◌, ◌≤◌, true, length, map, sym, ap, ◌∙◌, arith}
 use Rattle.doc_values.specs.Documents.{DocTree, doc_tree}
 use Rattle.doc_values.specs.Types.{ty_tree}
 use Rattle.doc_values.specs.Typing.{has}
 use Rattle.edit_module.specs.Action.{act}
 use Rattle.edit_module.specs.Depths.{word_depth}
-use Rattle.edit_module.specs.Views.{primitive_tree, word_tree}
+use Rattle.edit_module.specs.Views.{primitive_tree}
 use Rattle.edit_module.specs.Words.{WordTree, word_of}
 use Rattle.edit_module.proofs.ActionKeepsTypes.{has_primitive}
 use Rattle.edit_module.proofs.WordSteps.{later-none, act-more, act-all}

@@ -1,4 +1,4 @@
-use Rattle.std.proofs.Common.{◌≡◌, ◌+◌, ◌<◌, ◌≤◌, length, map, drop, sym, ap, ◌∙◌, arith}
+use Rattle.std.proofs.Common.{◌+◌, ◌<◌, ◌≤◌, length, map, drop, sym, ap, ◌∙◌, arith}
 use Rattle.doc_values.specs.Types.{ty_tree}
 use Rattle.edit_module.specs.Depths.{word_depth}
 use Rattle.edit_module.specs.Views.{primitive_tree, word_tree}
