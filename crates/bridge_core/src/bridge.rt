@@ -4,10 +4,10 @@ ghost use Rattle.doc_values.specs.Documents.{docs_tree};
 ghost use Rattle.bridge_core.specs.Bridges.{bridge_tree, bridges_tree, bridges_of, arm, no_bridges, same_each};
 ghost use Rattle.bridge_core.specs.Bridges.{bridge_at, put_bridge_at};
 
+use bridge_texts::TextBridge;
 use doc_values::Docs;
 use std::alloc::{AllocError, Global};
 use std::rc::Rc;
-use bridge_texts::TextBridge;
 use texts::{Name, Twin};
 
 /// How a document, the far one, differs from another, the near one, by the edits that were made of it.

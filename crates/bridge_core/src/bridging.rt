@@ -12,19 +12,19 @@ ghost use Rattle.edit_module.specs.Action.{act, act_primitive, inner, put_at};
 ghost use Rattle.edit_module.specs.Refusals.{IsRefusal, IsPrimitiveRefusal};
 ghost use Rattle.edit_module.specs.Words.{at, stay, splice};
 ghost use Rattle.bridge_core.specs.Bridges.{bridge_tree, bridges_tree, same, parts, put_bridge_at};
-ghost use Rattle.bridge_core.specs.Bridged.{bridge, bridge_primitive, bridge_set, bridge_splice, with_splice, bridge_stay};
-ghost use Rattle.bridge_core.specs.Bridged.{bridge_switch, parts_of, arm_of};
+ghost use Rattle.bridge_core.specs.Bridged.{bridge, bridge_primitive, bridge_set, bridge_splice, with_splice};
+ghost use Rattle.bridge_core.specs.Bridged.{bridge_stay, bridge_switch, parts_of, arm_of};
 ghost use Rattle.bridge_core.specs.Laws.{SpansValue};
 
 use crate::bridge::{Bridge, Bridges};
 use crate::laws::{a_bridge_spans, a_text_is_utf8};
+use bridge_texts::TextBridge;
 use doc_values::{Doc, Docs, Ty};
 use edit_module::action::{self, field_of, tag_of};
 use edit_module::word::{Primitive, Word};
 use edit_module::{ActFault, Cause, PrimitiveFault};
 use std::alloc::{AllocError, Global};
 use std::rc::Rc;
-use bridge_texts::TextBridge;
 use texts::{Name, Str, Twin};
 
 // What a word, or a primitive, makes of the far document, and the bridge to it.
@@ -140,8 +140,8 @@ fn step(
         (λ m. act_primitive (ty_tree ty.now) (primitive_tree primitive.now) (doc_tree doc.now) ≡ Ok (doc_tree m.value))
         (λ fault. IsPrimitiveRefusal (act_primitive (ty_tree ty.now) (primitive_tree primitive.now) (doc_tree doc.now))
         fault) }
-    ensures bridge { IfOk result (λ m. bridge_tree m.bridge
-        ≡ bridge_primitive (ty_tree ty.now) (primitive_tree primitive.now) (doc_tree doc.now) (bridge_tree before.now)) }
+    ensures bridge { IfOk result (λ m. bridge_tree m.bridge ≡ bridge_primitive (ty_tree ty.now)
+        (primitive_tree primitive.now) (doc_tree doc.now) (bridge_tree before.now)) }
 {
     match primitive {
         Primitive::Set(_) => acted(alloc, ty, primitive, doc, after_set(ty)),

@@ -34,5 +34,4 @@ pub fn only_what_is_gone_is_refused()
 #[tactic(auto, using(crate::proofs::Walks::text_rules))]
 pub(crate) fn a_text_is_utf8(text: &str)
     ensures { is_utf8 text.now ≡ true }
-{
-}
+{}
