@@ -1,5 +1,5 @@
 -- The bridges of the fields of a record.
-use Rattle.std.proofs.Common.{◌≡◌, ℕ, ◌+◌, true, List, Some, refl, sym, ap, subst, one-add, inl, inr}
+use Rattle.std.proofs.Common.{◌≡◌, ℕ, ◌+◌, true, List, [], ◌∷◌, Some, refl, sym, ap, subst, one-add, inl, inr}
 use Rattle.std.specs.Prelude.{bytes_eq}
 use Rattle.texts.proofs.Conjunction.{second}
 use Rattle.doc_values.specs.Documents.{DocTree, DocTrees, no_docs, more_docs}
@@ -8,12 +8,16 @@ use Rattle.doc_values.specs.Typing.{has, has_fields, lookup_field}
 use Rattle.doc_values.proofs.FieldPlaces.{lookup_field_cases}
 use Rattle.doc_values.proofs.Lists.{docs_of-doc_list}
 use Rattle.edit_module.specs.Action.{doc_at, put_at}
-use Rattle.bridge_core.specs.Bridges.{BridgeTree, BridgeTrees, no_bridges, more_bridges, bridges_of, bridge_list, bridge_at, put_bridge_at, same_each}
+use Rattle.bridge_core.specs.Bridges.{BridgeTree, same, BridgeTrees, no_bridges, more_bridges, bridges_of, bridge_list, bridge_at, put_bridge_at, same_each}
 use Rattle.bridge_core.specs.Spans.{Spans, SpanFields}
 
 pub bridges-of-list : (bs : BridgeTrees) → bridges_of (bridge_list bs) ≡ bs
 bridges-of-list no_bridges = refl
 bridges-of-list (more_bridges b bs) = ap (more_bridges b) (bridges-of-list bs)
+
+pub list-of-bridges : (bs : List BridgeTree) → bridge_list (bridges_of bs) ≡ bs
+list-of-bridges [] = refl
+list-of-bridges (b ∷ bs) = ap (λ cs. b ∷ cs) (list-of-bridges bs)
 
 -- each document is the same as itself
 pub same-fields : (fs : FieldTrees) (ds : DocTrees) → has_fields fs ds ≡ true → SpanFields (same_each ds) fs ds ds

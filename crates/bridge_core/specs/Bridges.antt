@@ -1,8 +1,11 @@
 -- Bridges as plain trees: how a document, the far one, differs from another, the near one.
--- In order: `BridgeTree`, and lists of bridges.
+-- In order: `BridgeTree`, lists of bridges, and `bridge_tree`, the tree that contracts see a bridge as.
 use Rattle.std.specs.Prelude.{ℕ, List, [], ◌∷◌, slice_set, slice_index_or}
 use Rattle.bridge_texts.specs.declared.run.Run.{Run}
 use Rattle.doc_values.specs.Documents.{DocTrees, no_docs, more_docs}
+use Rattle.bridge_core.specs.declared.bridge.Bridge.{Bridge, fold-Bridge}
+use Rattle.bridge_core.specs.declared.bridge.Bridges.{Bridges, fold-Bridges}
+use Rattle.bridge_core.specs.declared.bridge.Bridge.TheOpen.{Bridge-F, Bridges-F}
 
 -- both are the same; both have any value of a type without parts; nothing of the near one is followed; the runs of two
 -- texts; a bridge for each field of a record; the same tag, with the bridge of its contents; two tags, of which the far
@@ -41,3 +44,23 @@ put_bridge_at bs i b = bridges_of (slice_set (bridge_list bs) i b)
 abbrev pub same_each : DocTrees → BridgeTrees
 same_each no_docs = no_bridges
 same_each (more_docs d ds) = more_bridges same (same_each ds)
+
+-- one level of a `Bridge`, each bridge inside already seen as its tree
+abbrev pub bridge_step : Bridge-F BridgeTree BridgeTrees → BridgeTree
+bridge_step Bridge-F.Same = same
+bridge_step Bridge-F.Other = other
+bridge_step Bridge-F.Lost = lost
+bridge_step (Bridge-F.Text b) = cells b.value
+bridge_step (Bridge-F.Rec bs) = parts bs
+bridge_step (Bridge-F.Arm a b) = arm a b.value
+bridge_step (Bridge-F.Away a c) = away a c
+
+abbrev pub bridges_step : Bridges-F BridgeTree BridgeTrees → BridgeTrees
+bridges_step bs = bridges_of bs.items.items
+
+-- the tree of a `Bridge`, and the trees of a `Bridges`
+abbrev pub bridge_tree : Bridge → BridgeTree
+bridge_tree = fold-Bridge BridgeTree BridgeTrees bridge_step bridges_step
+
+abbrev pub bridges_tree : Bridges → BridgeTrees
+bridges_tree = fold-Bridges BridgeTree BridgeTrees bridge_step bridges_step

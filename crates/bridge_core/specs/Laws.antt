@@ -1,4 +1,5 @@
--- What bridges between documents keep. In order: `BridgeSpans`, `CarriedActs`, `OnlyGoneIsRefused`.
+-- What bridges between documents keep. In order: `BridgeSpans`, `CarriedActs`, `OnlyGoneIsRefused`,
+-- `SpansValue`.
 use Rattle.std.specs.Prelude.{◌≡◌, true, Result, Ok, Err}
 use Rattle.doc_values.specs.Documents.{DocTree}
 use Rattle.doc_values.specs.Types.{TyTree, is_well_formed}
@@ -6,7 +7,7 @@ use Rattle.doc_values.specs.Typing.{has}
 use Rattle.edit_module.specs.declared.fault.Cause.{Cause}
 use Rattle.edit_module.specs.declared.fault.Cause.TheVariants.{Overflow}
 use Rattle.edit_module.specs.Words.{WordTree}
-use Rattle.edit_module.specs.Action.{act, inner}
+use Rattle.edit_module.specs.Action.{Why, act, inner}
 use Rattle.bridge_core.specs.Bridges.{BridgeTree}
 use Rattle.bridge_core.specs.Bridged.{bridge}
 use Rattle.bridge_core.specs.Carried.{WhyNot, gone, carry}
@@ -38,3 +39,8 @@ CarriedActs = (t : TyTree) (w : WordTree) (b : BridgeTree) (s u v : DocTree) (q 
 abbrev pub OnlyGoneIsRefused : Type 0
 OnlyGoneIsRefused = (t : TyTree) (w : WordTree) (b : BridgeTree) (s v : DocTree) (why : WhyNot)
     → BeginsAt b t s → act t w s ≡ Ok v → carry t b w ≡ Err why → why ≡ gone
+
+-- a word had this answer on a document, which is a value; the bridge leads to it from s
+abbrev pub SpansValue : BridgeTree → TyTree → DocTree → Result DocTree Why → Type 0
+SpansValue b t s (Ok u) = Spans b t s u
+SpansValue b t s (Err why) = ⊥

@@ -1,4 +1,6 @@
 //! What bridges between documents keep, as laws. Each function does nothing: its clauses are the laws.
+ghost use Rattle.std.specs.Prelude.{◌≡◌, true};
+ghost use Rattle.std.specs.Str.{is_utf8};
 ghost use Rattle.bridge_core.specs.Laws.{BridgeSpans, CarriedActs, OnlyGoneIsRefused};
 
 use bridge_texts::{
@@ -27,3 +29,9 @@ pub fn only_what_is_gone_is_refused()
 {
     a_splice_of_the_near_text_is_carried();
 }
+
+// Each text is UTF-8.
+#[tactic(auto, using(crate::proofs::Walks::text_rules))]
+pub(crate) fn a_text_is_utf8(text: &str)
+    ensures { is_utf8 text.now ≡ true }
+{}

@@ -20,7 +20,7 @@ fn record_ty(alloc: Global) -> Result<Ty, Fail> {
     Ok(Ty::Rec(Fields::from_vec(vec![in alloc; (field, list)]?)))
 }
 
-fn name(alloc: Global, text: &str) -> Result<Name, Fail> {
+pub(crate) fn name(alloc: Global, text: &str) -> Result<Name, Fail> {
     Ok(Name::from_string(String::from_str(alloc, text)?))
 }
 
@@ -66,14 +66,14 @@ fn is_pair(alloc: Global, items: Docs, first: i64, second: i64) -> Result<bool, 
     Ok(is_same)
 }
 
-fn document(alloc: Global, ty: &Ty, text: &str) -> Result<Doc, Fail> {
+pub(crate) fn document(alloc: Global, ty: &Ty, text: &str) -> Result<Doc, Fail> {
     let tree = Value::from_str(alloc, text)?;
     let read = read_doc(alloc, ty, &tree);
     drop(tree);
     Ok(read?)
 }
 
-fn word(alloc: Global, text: &str) -> Result<Word, Fail> {
+pub(crate) fn word(alloc: Global, text: &str) -> Result<Word, Fail> {
     let tree = Value::from_str(alloc, text)?;
     let read = read_word(alloc, &tree);
     drop(tree);
