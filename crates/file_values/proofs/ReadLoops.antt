@@ -1,21 +1,30 @@
 -- Loops that read contents one after another: the contents so far, and those of what is left.
 use Rattle.std.proofs.lemmas.List.{drop_all}
-use Rattle.std.proofs.Common.{◌≡◌, ℕ, ◌+◌, ◌<◌, ◌≤◌, true, cond, bytes_eq, List, [], ◌∷◌, ◌++◌, append-nil, append_assoc, drop, length, get_or, Option, Some, None, Result, Ok, Err, sym, ap, ◌∙◌}
+use Rattle.std.proofs.Common.{◌≡◌, ℕ, ◌+◌, ◌<◌, ◌≤◌, true, cond, bytes_eq, List, [], ◌∷◌, ◌++◌, append-nil, append_assoc, drop, length, get_or, Option, Some, None, Result, Ok, Err, refl, sym, ap, ◌∙◌}
 use Rattle.json.specs.Json.{Json, Items, no_items, item, Members, no_members, member}
-use Rattle.doc_values.specs.Documents.{DocTree, alt, DocTrees, more_docs, docs_of, doc_list}
+use Rattle.doc_values.specs.Documents.{DocTree, rec, alt, DocTrees, more_docs, docs_of, doc_list}
+use Rattle.doc_values.proofs.Lists.{docs_of-doc_list}
 use Rattle.file_trees.specs.FileTrees.{file_tree, items_view}
 use Rattle.file_trees.specs.declared.tree.FileTree.{FileTree}
-use Rattle.file_forms.specs.Forms.{FileFormTree, file_form_tree, forms_view}
+use Rattle.file_forms.specs.Forms.{FileFormTree, as_object, form_names, file_form_tree, forms_view}
 use Rattle.file_forms.specs.Orders.{first_named}
 use Rattle.file_forms.specs.Slots.{takes}
 use Rattle.file_forms.specs.declared.form.FileForm.{FileForm}
-use Rattle.file_values.specs.Reading.{Misfit, map_ok, and_then, inside, one_reading, items_reading, members_reading, reading, fields_reading, tag_reading, bare_reading, Fails}
+use Rattle.file_values.specs.Reading.{Misfit, map_ok, and_then, inside, known_members, one_reading, items_reading, members_reading, reading, fields_reading, tag_reading, bare_reading, Fails}
 use Rattle.file_values.specs.declared.misfit.FileStep.TheVariants.{Member, Item}
 use Rattle.file_values.proofs.WriteLoops.{left_from}
 
 -- the contents, and then those that are read of what is left
 abbrev pub after : List DocTree → Result DocTrees Misfit → Result DocTrees Misfit
 after cs left = map_ok (λ ds. docs_of (cs ++ doc_list ds)) left
+
+-- before the first content, what is left is all
+pub before_all : (cs : List DocTree) (all : Result DocTrees Misfit) → cs ≡ [] → all ≡ after cs all
+before_all cs all none = from_first all ∙ ap (λ xs. after xs all) (sym none)
+  where
+    from_first : (r : Result DocTrees Misfit) → r ≡ after [] r
+    from_first (Ok ds) = ap Ok (sym (docs_of-doc_list ds))
+    from_first (Err m) = refl
 
 -- one content, and then the others
 abbrev joined : Result DocTrees Misfit → Result DocTree Misfit → Result DocTrees Misfit
@@ -44,6 +53,11 @@ field_refused fs i f ms cs m within is h =
 
 pub fields_done : (fs : List (List ℕ × FileForm)) (i : ℕ) (ms : Members) (cs : List DocTree) → length fs ≤ i → after cs (fields_reading (forms_view (drop i fs)) ms) ≡ Ok (docs_of cs)
 fields_done fs i ms cs past = ap (λ xs. after cs (fields_reading (forms_view xs) ms)) (drop_all i fs past) ∙ ap (λ xs. Ok (docs_of xs)) (append-nil cs)
+
+-- members that no field has are refused with the record
+pub strangers_refused : (fs gs : List (List ℕ × FileForm)) (s : Option Json) (m : Misfit) → gs ≡ fs → known_members (form_names (forms_view gs)) s ≡ Err m → reading (as_object (forms_view fs)) s ≡ Err m
+strangers_refused fs gs s m same h =
+    ap (λ r. map_ok rec (and_then (fields_reading (forms_view fs)) r)) (ap (λ xs. known_members (form_names (forms_view xs)) s) (sym same) ∙ h)
 
 -- ---- contents of one form
 

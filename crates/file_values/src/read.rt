@@ -247,13 +247,13 @@ fn read_map(alloc: Global, inner: &Box<FileForm>, members: &[(Name, FileTree)]) 
     ensures { Reads doc_tree result
         (map_reading (λ j. reading (file_form_tree inner.now.value) (Some j)) (members_view members.now)) }
 {
-    let members = by_name(alloc, members)?;
-    let mut docs = Vec::with_capacity(alloc, members.len())?;
-    for (name, content) in members.iter() {
+    let ordered = by_name(alloc, members)?;
+    let mut docs = Vec::with_capacity(alloc, ordered.len())?;
+    for (name, content) in ordered.iter() {
         let doc = read(alloc, inner, Some(*content));
         docs.push(in_member(alloc, doc, name)?)?;
     }
-    keyed(alloc, &members, Docs::from_vec(alloc, docs)?)
+    keyed(alloc, &ordered, Docs::from_vec(alloc, docs)?)
 }
 
 // A keyed map with the names of these members, which rise by bytes, as its keys.
