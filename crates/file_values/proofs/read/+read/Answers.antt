@@ -1,14 +1,20 @@
-use Rattle.std.proofs.Common.{◌≡◌, ℕ, ℤ, List, Option, Result, map, sym, ap, subst, ◌∙◌, rules}
+use Rattle.std.proofs.Common.{◌≡◌, ℕ, ℤ, List, [], ◌∷◌, Option, Some, Result, Ok, map, sym, ap, subst, ◌∙◌, rules}
+use Rattle.std.proofs.lemmas.List.{map-append}
 use Rattle.std.proofs.lemmas.Result.{err_from_is_err_and}
 use Rattle.json.specs.Json.{Json}
-use Rattle.doc_values.specs.Documents.{doc_tree}
+use Rattle.json.specs.Strict.{keys}
+use Rattle.hold_shapes.specs.declared.shape.Shape.TheVariants.{Keyed as KeyedOf}
+use Rattle.doc_values.specs.Documents.{DocTree, hold, doc_tree, docs_tree}
 use Rattle.doc_values.specs.declared.doc.Doc.{Doc}
+use Rattle.file_trees.specs.FileTrees.{file_tree, members_view}
+use Rattle.file_forms.specs.Orders.{by_name}
 use Rattle.file_forms.specs.Forms.{FileFormTree, as_int, as_text, as_enum, as_number, form_names, file_form_tree, forms_view}
 use Rattle.file_forms.specs.declared.form.FileForm.{FileForm, Int, Text, Enum, Number, the_lemmas}
 use Rattle.file_forms.proofs.FormParts.{form-Object}
-use Rattle.file_values.specs.Reading.{Reads, slot_of, fault_view, known_members, reading}
+use Rattle.file_values.specs.Reading.{Misfit, Reads, slot_of, lent_members, fault_view, map_ok, inside, known_members, members_reading, map_reading, reading}
+use Rattle.file_values.specs.declared.misfit.FileStep.TheVariants.{Member}
 use Rattle.file_values.specs.declared.misfit.ReadFault.{ReadFault}
-use Rattle.file_values.proofs.ReadLoops.{before_all, strangers_refused, fails_with}
+use Rattle.file_values.proofs.ReadLoops.{after, before_all, strangers_refused, next_member, member_refused, members_done, fails_with}
 use Rattle.file_values.proofs.read.+read.Goals as goal
 
 -- ---- by the kind of form
@@ -68,13 +74,55 @@ pub read_items-loop-i-init : goal.read_items-loop-i-init
 read_items-loop-i-init t c = before_all _ _ (ap (map doc_tree) c.in_ok-docs.ensures.items)
 
 pub read_map-loop-name-init : goal.read_map-loop-name-init
-read_map-loop-name-init t c = ?
+read_map-loop-name-init t c =
+    let read = λ (j : Json). reading (file_form_tree c.args.inner.now.value) (Some j) in
+    let cs = map doc_tree c.in_ok-docs.docs.items in
+    let all = ap lent_members (c.into_iter-name-iterator.ensures.into_iter_gives ∙ c.iter-name-items.ensures.rest) ∙ c.in_ok-ordered.ensures.members in
+    before_all cs (members_reading read (by_name (members_view c.args.members.now))) (ap (map doc_tree) c.in_ok-docs.ensures.items)
+    ∙ ap (λ ms. after cs (members_reading read ms)) (sym all)
 
 pub read_map-returns-in_err-in_member : goal.read_map-returns-in_err-in_member
-read_map-returns-in_err-in_member t c = ?
+read_map-returns-in_err-in_member t c =
+    let l = c.loop-name in
+    let read = λ (j : Json). reading (file_form_tree c.args.inner.now.value) (Some j) in
+    let outcome = reading (file_form_tree c.deref.result.now) (Some (file_tree c.in-Some.content.now.now)) in
+    let members = members_view c.args.members.now in
+    let cs = map doc_tree l.docs.items in
+    let k = c.in-Some.name.now.now in
+    let j = file_tree c.in-Some.content.now.now in
+    let same : c.args.inner.now.value ≡ c.deref.result.now = search rules in
+    let left = ap (λ ms. after cs (members_reading read (lent_members ms))) c.in-Some.ensures.steps in
+    let p = err_from_is_err_and c.from_residual-in_err-in_member.result c.from_residual-in_err-in_member.ensures.1 in
+    rw (p.1, p.2)
+    (fails_with (fault_view c.in_err-in_member.field-0.0) (inside (Member k) outcome) (map_reading read members)
+    (λ m h. ap (map_ok (hold (KeyedOf (keys (by_name members)))))
+    (l.invariant ∙ left ∙ member_refused read k j (lent_members c.next.new.self) cs m (ap (λ f. inside (Member k) (reading (file_form_tree f) (Some j))) same ∙ h)))
+    (c.in_err-in_member.ensures outcome c.read-doc.ensures))
 
 pub read_map-loop-name-preserved : goal.read_map-loop-name-preserved
-read_map-loop-name-preserved t c = ?
+read_map-loop-name-preserved t c =
+    let l = c.loop-name in
+    let read = λ (j : Json). reading (file_form_tree c.args.inner.now.value) (Some j) in
+    let cs = map doc_tree l.docs.items in
+    let k = c.in-Some.name.now.now in
+    let j = file_tree c.in-Some.content.now.now in
+    let rest = lent_members c.next.new.self in
+    let doc = c.in_ok-in_member.field-0 in
+    let same : c.args.inner.now.value ≡ c.deref.result.now = search rules in
+    let left = ap (λ ms. after cs (members_reading read (lent_members ms))) c.in-Some.ensures.steps in
+    let one = ap (λ f. inside (Member k) (reading (file_form_tree f) (Some j))) same ∙ c.in_ok-in_member.ensures (reading (file_form_tree c.deref.result.now) (Some j)) c.read-doc.ensures in
+    let more = ap (map doc_tree) c.in_ok-push.ensures.items ∙ map-append doc_tree l.docs.items (doc ∷ []) in
+    l.invariant ∙ left ∙ next_member read k j rest cs (doc_tree doc) one ∙ ap (λ xs. after xs (members_reading read rest)) (sym more)
 
 pub read_map-returns : goal.read_map-returns
-read_map-returns t c = ?
+read_map-returns t c =
+    let l = c.loop-name in
+    let read = λ (j : Json). reading (file_form_tree c.args.inner.now.value) (Some j) in
+    let members = members_view c.args.members.now in
+    let cs = map doc_tree l.docs.items in
+    let docs = docs_tree c.in_ok-from_vec.field-0 in
+    let last = ap (λ ms. after cs (members_reading read (lent_members ms))) c.in-None.ensures.steps.0 in
+    let all : members_reading read (by_name members) ≡ Ok docs = l.invariant ∙ last ∙ members_done read cs ∙ ap (λ ds. Ok ds) (sym c.in_ok-from_vec.ensures) in
+    let whole = ap (map_ok (hold (KeyedOf (keys (by_name members))))) all in
+    let named = ap (λ ms. map_ok (hold (KeyedOf (keys ms))) (Ok docs)) c.in_ok-ordered.ensures.members in
+    subst (λ (o : Result DocTree Misfit). Reads doc_tree c.keyed.result o) (named ∙ sym whole) c.keyed.ensures
