@@ -29,7 +29,7 @@ use std::alloc::Global;
 use std::collections::BTreeMap;
 use texts::{Name, Names, Twin};
 
-/// The document that a file is.
+/// The document that a file is. Of two members with one name the first counts; `read_file` returns no such tree.
 ///
 /// - `Misfit`: if and only if the file is not as the form has it. It has the first part that is not, and why. Of a
 ///   record the members that no field has come first, then the fields in their order.

@@ -1,8 +1,10 @@
-//! Files by forms, a row each: what is written of the document that a file is, or why it is none.
+//! Files by forms, a row each: what is written of the document that a file is, or why it is none; and documents that no
+//! file shows.
 
+use doc_values::Doc;
 use file_forms::{FileForm, Literal};
 use file_trees::{read_file, write_file};
-use file_values::{FileMisfit, FileStep, ReadCause, ReadFault, read_tree, write_tree};
+use file_values::{FileMisfit, FileStep, ReadCause, ReadFault, WriteFault, read_tree, write_tree};
 use std::alloc::{AllocError, Global};
 use std::test::Fail;
 use texts::{Name, Names, Str};
@@ -180,5 +182,33 @@ fn misfits_of_alternatives(rt: HostRuntime) -> Result<(), Fail> {
         assert_eq!(rt; place.as_str(), at);
         assert!(rt; found == cause);
     }
+    Ok(())
+}
+
+// Whether the document is refused since no file of the form shows it.
+fn is_without_file(alloc: Global, form: FileForm, doc: Doc) -> bool {
+    let written = write_tree(alloc, &form, &doc);
+    drop(doc);
+    drop(form);
+    match written {
+        Ok(tree) => {
+            drop(tree);
+            false
+        }
+        Err(fault) => fault == WriteFault::NoFile,
+    }
+}
+
+#[test]
+fn documents_without_a_file(rt: HostRuntime) -> Result<(), Fail> {
+    let alloc = rt.alloc();
+    for letters in ["", "+1", "1.", "01"] {
+        let text = Str::from_string(String::from_str(alloc, letters)?);
+        let form = FileForm::Number(Str::empty(alloc));
+        assert!(rt; is_without_file(alloc, form, Doc::Text(text)));
+    }
+    let green = name(alloc, "green")?;
+    assert!(rt; is_without_file(alloc, color(alloc)?, Doc::Pick(green)));
+    assert!(rt; is_without_file(alloc, FileForm::Bool, Doc::Int(1)));
     Ok(())
 }
