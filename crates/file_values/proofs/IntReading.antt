@@ -1,8 +1,7 @@
 -- A text is read as the i64 that it is written from.
-use Rattle.std.proofs.Common.{◌≡◌, ℤ, pos, negsuc, ◌^◌, ◌<◌, true, false, bytes_eq, List, ℕ, Option, Some, None, Result, Ok, Err, refl, sym, subst, ap, ◌∙◌, arith, FitsSigned, w64}
+use Rattle.std.proofs.Common.{◌≡◌, ℤ, pos, negsuc, true, false, bytes_eq, List, ℕ, Option, Some, None, Result, Ok, Err, refl, sym, subst, ap, ◌∙◌, arith, FitsSigned, w64}
 use Rattle.std.proofs.lemmas.Bool.Decides.{nat_tests}
 use Rattle.std.proofs.lemmas.Fmt.{parse-signed_decimal}
-use Rattle.std.proofs.lemmas.Int.{ints}
 use Rattle.std.specs.Fmt.{signed_decimal}
 use Rattle.std.specs.Str.Parse.{ParsesSigned}
 use Rattle.texts.proofs.KeyOrder.{bytes_eq-refl}

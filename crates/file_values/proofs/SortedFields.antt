@@ -21,7 +21,7 @@ use Rattle.file_forms.proofs.SortedMembers.{named-by_name}
 
 -- ---- names that differ, either way
 
-other : (n k : List ℕ) → is_before n k ≡ true → bytes_eq k n ≡ false
+pub other : (n k : List ℕ) → is_before n k ≡ true → bytes_eq k n ≡ false
 other n k h = refuted (bytes_eq k n) (λ e. let same = bytes_eq-is k n e in let no : true ≡ false = sym (bytes_eq-refl n) ∙ ap (bytes_eq n) (sym same) ∙ before-differs n k h in cc)
 
 skip : (n k : List ℕ) (ks : List (List ℕ)) → is_rising (n ∷ k ∷ ks) ≡ true → is_rising (n ∷ ks) ≡ true

@@ -28,7 +28,10 @@ pub(crate) fn known_members<'a>(
 {
     let members = members_in(alloc, slot)?;
     match stranger(fields, members) {
-        Some(name) => Err(ReadFault::here(alloc, ReadCause::NoField).in_member(alloc, name.as_str())),
+        Some(name) => Err(ReadFault::here(alloc, ReadCause::NoField).in_member(
+            alloc,
+            name.as_str(),
+        )),
         None => Ok(members),
     }
 }

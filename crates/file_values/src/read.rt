@@ -243,7 +243,11 @@ fn listed(docs: Docs) -> Doc
 
 // A keyed map, from the members of an object in byte order.
 #[cycle(read)]
-fn read_map(alloc: Global, inner: &Box<FileForm>, members: &[(Name, FileTree)]) -> Result<Doc, ReadFault>
+fn read_map(
+    alloc: Global,
+    inner: &Box<FileForm>,
+    members: &[(Name, FileTree)],
+) -> Result<Doc, ReadFault>
     ensures { Reads doc_tree result
         (map_reading (λ j. reading (file_form_tree inner.now.value) (Some j)) (members_view members.now)) }
 {
