@@ -100,7 +100,7 @@ fn two(
 ) -> Result<Vec<(Name, FileForm)>, AllocError> {
     let one = named(alloc, first, one)?;
     let other = named(alloc, second, other)?;
-    vec![in alloc; one, other]
+    Ok(vec![in alloc; one, other]?)
 }
 
 // Where a form is not fit: the names on the way, each with a slash before it, and `*` for contents.
@@ -137,7 +137,13 @@ fn contents_alone(rt: HostRuntime) -> Result<(), Fail> {
     let fit = FileForm::Bare(two(alloc, "a", null, "b", gone)?);
     assert!(rt; fit.misfit(alloc)?.is_none());
     drop(fit);
-    let same = two(alloc, "a", FileForm::Int(1), "b", FileForm::Number(Str::empty(alloc)))?;
+    let same = two(
+        alloc,
+        "a",
+        FileForm::Int(1),
+        "b",
+        FileForm::Number(Str::empty(alloc)),
+    )?;
     let (at, fault) = misfit(alloc, FileForm::Bare(same))?;
     assert_eq!(rt; at.as_str(), "/a");
     assert!(rt; fault == FormFault::SameSlot);
@@ -148,7 +154,13 @@ fn contents_alone(rt: HostRuntime) -> Result<(), Fail> {
 fn fields_and_tags(rt: HostRuntime) -> Result<(), Fail> {
     let alloc = rt.alloc();
     let fields = FileForm::Object(two(alloc, "b", FileForm::Bool, "a", FileForm::Bool)?);
-    let outer = two(alloc, "x", FileForm::Bool, "y", FileForm::Items(Box::new(alloc, fields)?))?;
+    let outer = two(
+        alloc,
+        "x",
+        FileForm::Bool,
+        "y",
+        FileForm::Items(Box::new(alloc, fields)?),
+    )?;
     let (at, fault) = misfit(alloc, FileForm::Object(outer))?;
     assert_eq!(rt; at.as_str(), "/y/*/a");
     assert!(rt; fault == FormFault::FieldOrder);

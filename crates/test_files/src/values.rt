@@ -20,7 +20,10 @@ fn task(alloc: Global) -> Result<FileForm, Fail> {
     fields.push((name(alloc, "note")?, note(alloc)?))?;
     fields.push((name(alloc, "size")?, FileForm::Number(Str::empty(alloc))))?;
     fields.push((name(alloc, "tags")?, tags(alloc)?))?;
-    fields.push((name(alloc, "who")?, FileForm::Map(Box::new(alloc, FileForm::Int(0))?)))?;
+    fields.push((
+        name(alloc, "who")?,
+        FileForm::Map(Box::new(alloc, FileForm::Int(0))?),
+    ))?;
     Ok(FileForm::Object(fields))
 }
 
@@ -143,7 +146,11 @@ fn misfits_of_records(rt: HostRuntime) -> Result<(), Fail> {
         ("{\"done\":1}", "/done", ReadCause::OtherSort),
         ("{}", "/done", ReadCause::Missing),
         ("{\"done\":true,\"note\":null}", "/note", ReadCause::NoTag),
-        ("{\"done\":true,\"size\":\"1\"}", "/size", ReadCause::OtherSort),
+        (
+            "{\"done\":true,\"size\":\"1\"}",
+            "/size",
+            ReadCause::OtherSort,
+        ),
         (
             "{\"done\":true,\"size\":1,\"tags\":[\"a\",1,2]}",
             "/tags/1",
