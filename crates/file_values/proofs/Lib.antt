@@ -1,3 +1,9 @@
 pub mod IntRanges
+pub mod IntReading
 pub mod WriteLoops
 pub mod WrittenTrees
+pub mod SortedFields
+pub mod ReadingReads
+pub mod ReadTrees
+pub mod ReadLoops
+pub mod LentMembers

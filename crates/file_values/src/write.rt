@@ -13,7 +13,8 @@ ghost use Rattle.file_forms.specs.Forms.{as_items, as_map, file_form_tree, forms
 ghost use Rattle.file_forms.specs.Fitting.{is_fit};
 ghost use Rattle.file_forms.specs.Numbers.{is_number};
 ghost use Rattle.file_forms.specs.Slots.{literal_slot};
-ghost use Rattle.file_forms.specs.FileValues.{read, write, write_fields, write_tag, with_slot, object_slot, tagged_slot};
+ghost use Rattle.file_forms.specs.FileValues.{read, write, write_fields, write_tag, with_slot};
+ghost use Rattle.file_forms.specs.FileValues.{object_slot, tagged_slot};
 ghost use Rattle.file_values.specs.Writing.{Writes, slot_view, then_members};
 
 use crate::fault::WriteFault;
