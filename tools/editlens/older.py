@@ -105,6 +105,11 @@ class OlderStates:
         self._newest = _State(documents)
         self._steps: Deque[_Step] = deque(maxlen=most)
         self._done: Deque[_Step] = deque(maxlen=most)
+        self._is_over = False
+
+    def end(self) -> None:
+        """Nothing is known any more of what the session does: from now on each edit for one of these states is refused as `base`."""
+        self._is_over = True
 
     @property
     def first(self) -> int:
@@ -165,6 +170,8 @@ class OlderStates:
         return [it.bridge(self.types, name) for it in left]
 
     def _need_known(self, number: int) -> None:
+        if self._is_over:
+            raise unknown_base("the session was opened again, and what it did meanwhile is not known")
         if number > self.number:
             raise unknown_base(f"state {number}, for which this edit was made, is not there yet: the newest one is {self.number}")
         if number < self.first:
@@ -175,14 +182,15 @@ class OlderEdits:
     """Edits of a document that their author has made one after another, the first for the state `number`.
 
     `near` is the document as the author has it. `parts` lead from there to the newest document. An edit that is not taken stays in `near`:
-    the author has made those after it with it, and the ones that rest on it are not taken either.
+    the author has made those after it with it, and the ones that rest on it are not taken either. `count` is the number of the last edit;
+    whoever numbers edits in another way sets it before each.
     """
 
     def __init__(self, states: OlderStates, name: Any, number: int) -> None:
         self.states, self.name = states, name
         self.near = states.document(name, number)
         self.parts: List[Part] = []
-        self._seen, self._count = number, 0
+        self._seen, self.count = number, 0
 
     def carried(self, *words: Any) -> List[Any]:
         """The words of an edit for the newest document. It is not sent by this: `taking` is for an edit that others follow.
@@ -198,14 +206,14 @@ class OlderEdits:
 
         Where anything is raised inside, the edit counts as not taken. Else the session has taken it as its next change.
         """
-        self._count += 1
+        self.count += 1
         after = self._after(words)
         try:
             carried, parts = self._carried(words)
             yield carried
         except BaseException:
             back = flipped(bridge_of(self.states.types[self.name], _joined(words), self.near))
-            self.parts, self.near = [(back, self._count), *self.parts], after
+            self.parts, self.near = [(back, self.count), *self.parts], after
             raise
         self.near, self.parts, self._seen = after, parts, self._seen + 1
 
