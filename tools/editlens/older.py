@@ -14,7 +14,7 @@ from typing import Any, Deque, Dict, Iterator, List, Mapping, Optional, Sequence
 
 from .causes import CAUSES
 from .edits import NoApply, act
-from .rebase import SAME, Bridge, NotCarried, bridge_of, carry, flipped
+from .rebase import SAME, Bridge, Cause, NotCarried, bridge_of, carry, flipped
 from .rebase.causes import SENTENCES
 from .types import Ty
 
@@ -226,42 +226,53 @@ class OlderEdits:
     def _carried(self, words: Sequence[Any]) -> Tuple[List[Any], List[Part]]:
         self.parts = [*self.parts, *((it, None) for it in self.states.bridges(self.name, self._seen))]
         self._seen = self.states.number
-        parts, made, far = self.parts, [], self.states.documents[self.name]
+        parts, far, at = self.parts, self.states.documents[self.name], 0
+        made: List[Any] = []
         for number, word in enumerate(words):
-            try:
-                carried, parts = _over(parts, word)
-                far = act(self.states.types[self.name], far, carried)
-            except (NoApply, NotTaken) as why:
-                refused = why if isinstance(why, NotTaken) else NotTaken(why.cause, CAUSES[why.cause])
-                refused.word, refused.edit = number, _joined(words)
-                refused.at = None if refused.at is None else refused.at + len(_joined(words[:number]))
-                raise refused from None
-            made.append(carried)
+            made.append([])
+            for primitive in word:
+                try:
+                    piece, parts = _over(parts, primitive)
+                    far = act(self.states.types[self.name], far, piece)
+                except (_NoPlace, NoApply) as why:
+                    raise _refused(why, number, at, _joined(words)) from None
+                made[-1] += piece
+                at += 1
         return made, parts
+
+
+class _NoPlace(Exception):
+    """A primitive that is not carried over a bridge: the cause, and the number of the edit that the bridge takes back, or None."""
+
+    def __init__(self, cause: Cause, rests_on: Optional[int]) -> None:
+        super().__init__(cause)
+        self.cause, self.rests_on = cause, rests_on
+
+
+def _refused(why: _NoPlace | NoApply, word: int, at: int, edit: List[Any]) -> NotTaken:
+    """The refusal of an edit for a primitive that has no place, or whose sum does not fit any more."""
+    if isinstance(why, NoApply):
+        refused = NotTaken(why.cause, CAUSES[why.cause], at)
+    elif why.rests_on is None:
+        refused = NotTaken(why.cause.value, SENTENCES[why.cause], at)
+    else:
+        refused = NotTaken(why.cause.value, f"this edit rests on edit {why.rests_on}, which was not taken", at, why.rests_on)
+    refused.word, refused.edit = word, edit
+    return refused
 
 
 def _joined(words: Sequence[Any]) -> List[Any]:
     return [it for word in words for it in word]
 
 
-def _over(parts: List[Part], word: Any) -> Tuple[Any, List[Part]]:
-    """A word over bridges, primitive by primitive, so that a refusal knows which one has no place."""
-    made: List[Any] = []
-    for at, primitive in enumerate(word):
-        piece: List[Any] = [primitive]
-        behind: List[Part] = []
-        for bridge, rests_on in parts:
-            try:
-                piece, bridge = carry(bridge, piece)
-            except NotCarried as why:
-                raise NotTaken(why.cause.value, _sentence(why, rests_on), at, rests_on) from None
-            behind += [(bridge, rests_on)] if bridge != SAME else []
-        made += piece
-        parts = behind
-    return made, parts
-
-
-def _sentence(why: NotCarried, rests_on: Optional[int]) -> str:
-    if rests_on is not None:
-        return f"this edit rests on edit {rests_on}, which was not taken"
-    return SENTENCES[why.cause]
+def _over(parts: List[Part], primitive: Any) -> Tuple[List[Any], List[Part]]:
+    """A primitive over bridges, one after another. Raises _NoPlace."""
+    piece: List[Any] = [primitive]
+    behind: List[Part] = []
+    for bridge, rests_on in parts:
+        try:
+            piece, bridge = carry(bridge, piece)
+        except NotCarried as why:
+            raise _NoPlace(why.cause, rests_on) from None
+        behind += [(bridge, rests_on)] if bridge != SAME else []
+    return piece, behind

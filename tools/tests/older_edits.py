@@ -63,7 +63,7 @@ def test_what_does_not_act_where_it_was_made():
     raised(NotAnEdit, lambda: OlderEdits(states, "left", 3).carried([{"jump": 1}]))
     counts = OlderStates({"left": read_type("int")}, 0, {"left": 1})
     counts.changed({"left": [{"set": 2**63 - 1}]})
-    assert refusal(lambda: OlderEdits(counts, "left", 0).carried([{"add": 1}])) == ("overflow", None, None)
+    assert refusal(lambda: OlderEdits(counts, "left", 0).carried([{"add": 0}, {"add": 1}])) == ("overflow", 1, None)
 
 
 def test_which_states_are_known():
