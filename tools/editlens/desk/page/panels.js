@@ -43,7 +43,7 @@ export function refusalLines(said) {
     : [element("strong", {}, title), element("span", {}, sentence)];
   if (said.allowed && !said.plain) lines.push(element("span", {}, "Allowed here: ", element("code", {}, said.allowed)));
   if (said.lost?.length) lines.push(element("span", {}, "Not made: "), element("ul", {}, ...said.lost.map((it) => element("li", {}, it))));
-  if (said.since) lines.push(element("span", {}, "Since then: "), element("ul", {}, ...said.since.map((it) => element("li", {}, it))));
+  if (said.since?.length) lines.push(element("span", {}, "Since then: "), element("ul", {}, ...said.since.map((it) => element("li", {}, it))));
   if (said.typed && !said.plain) lines.push(element("span", {}, "Your text was: ", element("code", {}, said.typed)));
   return lines;
 }
