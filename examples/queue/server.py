@@ -92,10 +92,10 @@ class Server:
         self.child.wait()
         self.folder.cleanup()
 
-    def send(self, name, lines):
-        """Adds edits to the queue."""
+    def send(self, name, lines, base=None):
+        """Adds edits to the queue, which may all have a base."""
         for line in lines:
-            self.queue.call("XADD", f"{name}:edits", "*", "line", line)
+            self.queue.call("XADD", f"{name}:edits", "*", "line", line, *([] if base is None else ["base", base]))
 
     def answered(self, name):
         """The answers in the queue, and how many changes each counts, without the one that begins the queue."""

@@ -53,8 +53,9 @@ Work = Callable[[Kept], Awaitable[Made]]
 class Change:
     """A request that changes a pair. `key` names it, and `is_keyed` says whether a client chose that name.
 
-    `expected` is the number of the state that it was made for, or None. `work` makes it, on the newest state, as often as another worker
-    was faster; a request that makes a pair has none.
+    `expected` is the number of the state that it was made for, or None. Where that is older than the newest one, it is refused, unless it
+    `carries`: then `work` carries what was made for it. `work` makes the change, on the newest state, as often as another worker was faster;
+    a request that makes a pair has none.
     """
 
     key: str
@@ -63,6 +64,11 @@ class Change:
     author: str
     expected: "int | None"
     work: "Work | None" = None
+    carries: bool = False
+
+    def late(self, number: int) -> "int | None":
+        """The number of the older state for which it was made, where the newest one has this number and what it asks for is carried."""
+        return self.expected if self.carries and self.expected is not None and self.expected < number else None
 
 
 def changed(stepped: Stepped) -> Draft:

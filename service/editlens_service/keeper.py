@@ -165,7 +165,7 @@ class Keeper:
         kept = slot.kept
         if kept is None or is_fresh or change.expected not in (None, kept.number):
             kept, is_fresh = await self._newest(slot, kind, pair), True
-        if change.expected not in (None, kept.number):
+        if change.expected not in (None, kept.number) and change.late(kept.number) is None:
             await self._need_newest(pair, change, kept)
         before = kept.number
         made = await worked(change, kept)
@@ -182,7 +182,7 @@ class Keeper:
         """Raises NotNewest, unless the request was stored before: then Collision, and its reply is found."""
         if change.is_keyed and await self.database.row(tables.REPLY, pair, change.key):
             raise Collision
-        raise NotNewest(kept.number)
+        raise NotNewest(kept.number, **({"cause": "base"} if change.carries else {}))
 
     async def _earlier(self, pair: int, change: Change, attempts: "dict[int, dict[str, Any]]") -> "dict[str, Any] | None":
         """The reply to a request that is stored already, or None."""

@@ -68,9 +68,9 @@ class NotNewest(Problem):
 
     status, slug, title = 412, "not-newest", "The edit was made for another state than the newest"
 
-    def __init__(self, newest: int) -> None:
+    def __init__(self, newest: int, **more: Any) -> None:
         detail = f"the newest state is {newest}: read the document again, or take the changes up to there, and send the edit anew"
-        super().__init__(detail, {"ETag": f'"{newest}"'}, newest=newest)
+        super().__init__(detail, {"ETag": f'"{newest}"'}, newest=newest, **more)
 
 
 class TooLarge(Problem):
@@ -89,6 +89,15 @@ class Refused(Problem):
     """An edit, a document or a program that editlens refuses."""
 
     status, slug, title = 422, "refused", "editlens refuses this"
+
+
+class NotCarried(Refused):
+    """An edit that was made for an older state, and has no place in the newest one. `cause` is the word of docs/EDITS.md, or `base`."""
+
+    status, slug, title = 412, "not-carried", "The edit was made for an older state, and is not carried to the newest"
+
+    def __init__(self, cause: str, why: str, newest: int, **more: Any) -> None:
+        super().__init__(f"the edit is refused: {why}", {"ETag": f'"{newest}"'}, cause=cause, why=why, newest=newest, **more)
 
 
 class KeyReused(Problem):

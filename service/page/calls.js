@@ -17,9 +17,13 @@ function refusal(why, side, edit) {
     return { ok: false, cause: "failed", sentence: `The service does not answer: ${why.message}` };
   }
   const { problem, status } = why;
+  if (status === 412 && problem.cause !== undefined) {
+    const lost = problem.lost?.map((it) => `${side}: ${it}`);
+    return { ok: false, cause: problem.cause, version: problem.newest, sentence: problem.why ?? problem.detail, lost, since: [], side, edit };
+  }
   if (status === 412) {
-    const sentence = "The documents changed after you began this edit, so it was not sent. Nothing of it was applied.";
-    return { ok: false, cause: "stale", stale: true, version: problem.newest, sentence };
+    const sentence = "The documents changed after you began this, so it was not done.";
+    return { ok: false, cause: "stale", version: problem.newest, sentence, since: [] };
   }
   if (status !== 422 || problem.at === undefined) {
     return { ok: false, cause: problem.cause ?? "failed", place: null, sentence: problem.detail ?? problem.title, side, edit };

@@ -58,16 +58,17 @@ def test_a_refused_edit(room: Room) -> None:
 
 
 def test_if_match(room: Room) -> None:
-    """An edit that was made for another state than the newest is refused with 412, at each worker, also at one that has not seen the newest."""
+    """A strict edit that was made for another state than the newest is refused with 412, at each worker, also at one that has not seen the newest."""
     name = _made(room)
     left, other = room.client(0).pair(name, "left"), room.client(1).pair(name, "left")
     assert other.read()[1] == 0
-    assert left.edit(HOURS, expected=0).number == 1
+    assert left.edit(HOURS, expected=0, strict=True).number == 1
     for it in (left, other):
-        why = raises(Refusal, it.edit, HOURS, expected=0)
-        assert why.status == 412 and why.problem["newest"] == 1, why.problem
+        why = raises(Refusal, it.edit, HOURS, expected=0, strict=True)
+        assert why.status == 412 and why.problem["newest"] == 1 and why.problem["type"] == "urn:editlens:not-newest", why.problem
     assert other.edit(HOURS, expected=1).number == 2
-    assert raises(Refusal, other.edit, HOURS, expected=7).status == 412
+    for strict in (False, True):
+        assert raises(Refusal, other.edit, HOURS, expected=7, strict=strict).status == 412
     assert left.read() == ({"hours": 2, "plan": []}, 2)
 
 

@@ -58,13 +58,14 @@ def test_the_examples_of_the_page(room: Room) -> None:
     """Each request of curl is answered as the page says, and the two programs keep a document and a form in step."""
     address = room.serve()[0].address
     lines = [line for block in _blocks("") for line in block.splitlines() if line.startswith("curl")]
-    made, read, edited, patched, event = (_asked(line, address) for line in lines)
+    made, read, edited, patched, event, late = (_asked(line, address) for line in lines)
     assert made["name"] == NAME and read == {"hours": 0, "plan": []}, (made, read)
     assert edited["number"] == 1 and edited["answers"][0]["edits"]["left"] == [{"at": ["hours", [{"set": 8}]]}], edited
     assert patched["number"] == 2 and event["number"] == 1, (patched, event)
-    assert _python(address) == "2 {'hours': 8, 'plan': []}\n"
+    assert late["number"] == 3 and late["sent"][-1] == {"op": "replace", "path": "/board/todo/0", "value": "Tiles"}, late
+    assert _python(address) == "3 {'hours': 8, 'plan': [{'todo': 'Tiles'}]}\n"
     assert _javascript(address) == "[8,9]\n"
-    assert room.client().pair(NAME, "left").read() == ({"hours": 9, "plan": []}, 3)
+    assert room.client().pair(NAME, "left").read() == ({"hours": 9, "plan": [{"todo": "Tiles"}]}, 4)
 
 
 def _python(address: str) -> str:

@@ -23,6 +23,7 @@ explain     what a refusal means, with the place in the text or in the document
 lenses      the lens of a program, `sharing`: which places of both documents it ties, and `written`: its fields in their order
 changes     the places that an edit changed, and `sentences`: an edit in words
 rebase      edits that were made for older documents, carried to newer ones; `pending` shows a person's edits while they are on their way
+older       edits that were made for older states of a session, carried to its newest one
 desk        both documents on a page in the browser; `browser` drives one for its tests and pictures
 
 No tool computes an edit from two versions of a document.

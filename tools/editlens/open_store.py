@@ -21,8 +21,9 @@ from .lines import lines_of
 from .lock import PAUSE, StoreBusy, is_busy, need_free
 from .log import Log, is_change
 from .natural.files import Files
+from .older import MOST_CHANGES, OlderEdits, unknown_base
 from .process import Process
-from .session import DocumentsDiffer, Editing
+from .session import DocumentsDiffer, Editing, words_by_side
 from .store_file import open_regular
 
 PROBE = b"{}"
@@ -234,7 +235,8 @@ class OpenStore(KeptRun, Editing):
 
     `left`, `right` and `group` send an edit and return the answer, an Accepted, when the change is on the disk; a refused one is raised as
     Refused, and nothing has changed then. `documents` has both documents after each answer. They are followed here by the rules of
-    docs/EDITS.md; `compare` and `close` compare them with the program's own. `stored` is how many changes the store has.
+    docs/EDITS.md; `compare` and `close` compare them with the program's own. `stored` is how many changes the store has. `older` is for edits
+    that were made for a state before these.
 
     The run holds the lock on the folder, so no other program writes to the store until `close`. Threads may share the object.
 
@@ -245,6 +247,7 @@ class OpenStore(KeptRun, Editing):
 
     def __init__(self, store: Any, wait: float = 0.0, timeout: float | None = None, forms: dict[str, Any] | None = None) -> None:
         self.types, self.documents, self.complement, self.program, self.files = {}, {}, None, "", None
+        self._states: Any = None
         super().__init__(store, wait, timeout)
         try:
             self.files = Files(self, forms)
@@ -266,13 +269,33 @@ class OpenStore(KeptRun, Editing):
         with self.lock:
             self._ended(self.store.show())
 
+    def older(self, side: str, number: int) -> OlderEdits:
+        """The document of a side as it was after so many changes of the store, for edits that were made for it.
+
+        They are carried over the words of this side that were stored since then, up to 1,000 changes. `undo`, `pack` and `reopen` end it.
+        Raises NotTaken with the cause `base` where the state is older, or is not there yet, or where two states have this number, since
+        changes were taken back behind it.
+        """
+        from .older_store import read_states
+
+        with self.lock:
+            if number > self.stored:
+                raise unknown_base(f"change {number}, for which this edit was made, is not there yet: the store has {self.stored}")
+            if number < max(0, self.stored - MOST_CHANGES):
+                raise unknown_base(f"more than {MOST_CHANGES:,} changes came after change {number}, for which this edit was made")
+            if self._states is None or number < self._states.first:
+                self._states = read_states(self.store.file, number, self.types, self.path)
+            return OlderEdits(self._states.states, side, self._states.place(number))
+
     def _leave(self):
         if self.files:
             self.files.trial.stop()
         super()._leave()
 
     def _opened(self):
-        self.program = stored_program(self.store.file)
+        if self._states:
+            self._states.states.end()
+        self._states, self.program = None, stored_program(self.store.file)
         left, right = check(self.program, self.path)
         self.types = {"left": left, "right": right}
         left, right, self.complement = self.store.show()
@@ -284,7 +307,10 @@ class OpenStore(KeptRun, Editing):
         if not isinstance(answer, Accepted):
             return self.explained(data.decode(errors="replace"), answer)
         self.stored += 1
-        self.follow(read_json(data.decode()), answer)
+        change = read_json(data.decode())
+        self.follow(change, answer)
+        if self._states:
+            self._states.changed(words_by_side(change, answer.words), self.documents)
         return answer
 
     def _ended(self, state):

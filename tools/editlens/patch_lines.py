@@ -11,6 +11,7 @@ from .json_text import NotJson
 from .lock import StoreBusy
 from .natural import NoCounterpart, NotWritable, read_file, write_file
 from .natural.text import shown
+from .older import NotTaken, OlderEdits
 from .private import PrivateLoss
 from .session import DocumentsDiffer
 from .store import ADVICE, StoreRefused
@@ -25,10 +26,14 @@ class NotALine(ValueError):
 
 
 class PatchLines:
-    """Answers lines by an open store. Of one side a line is a patch; of both it is an object with a patch, a group or an undo."""
+    """Answers lines by an open store. Of one side a line is a patch; of both it is an object with a patch, a group or an undo.
 
-    def __init__(self, store: Any, side: str, drop_private: bool = False) -> None:
-        self.store, self.side, self.drop_private = store, side, drop_private
+    With `base`, the patches of one side were made one after another, the first for the file after so many changes of the store.
+    """
+
+    def __init__(self, store: Any, side: str, drop_private: bool = False, base: int | None = None) -> None:
+        self.store, self.side, self.drop_private, self.base = store, side, drop_private, base
+        self._older: OlderEdits | None = None
 
     def answer(self, number: int, line: bytes) -> tuple[str, bool]:
         """The answer to a line of bytes, and whether it is refused. What is refused has changed nothing.
@@ -37,7 +42,8 @@ class PatchLines:
         """
         before = self.store.stored
         try:
-            return f"ok {number} {self._done(read_file(line.decode()))}", False
+            tree = read_file(line.decode())
+            return f"ok {number} {self._done(tree) if self.base is None else self._carried(number, tree)}", False
         except (RunEnded, StoreBusy, DocumentsDiffer, OSError):
             raise
         except Exception as why:
@@ -62,6 +68,14 @@ class PatchLines:
         side, patch = _entry({name: tree[name] for name in ("side", "patch")})
         return f"{OTHER[side]} {write_file(self.store.files.patch(side, patch, drop).patch)}"
 
+    def _carried(self, number, tree):
+        """The patches of both files by a patch of an older one."""
+        if self._older is None:
+            self._older = self.store.older(self.side, self.base)
+        self._older.count = number - 1
+        done = self.store.files.patch(self.side, tree, self.drop_private, self._older)
+        return write_file({self.side: done.sent, OTHER[self.side]: done.patch})
+
     def _undone(self, count):
         if type(count) is not int:
             raise NotALine(f"undo says how many changes are taken back, and not {shown(count)}")
@@ -85,6 +99,9 @@ def _reason(why):
     """Why a line was refused, or has no patch."""
     if isinstance(why, Refused):
         return why.cause
+    if isinstance(why, NotTaken):
+        sentence = why.sentence if why.rests_on is None else f"this patch rests on that of line {why.rests_on}, which was refused"
+        return f"{why.cause}: {sentence}" if why.operation is None else f"{why.cause}: operation {why.operation}: {sentence}"
     if isinstance(why, (NotJson, UnicodeDecodeError)):
         return f"not JSON: {why}"
     if isinstance(why, StoreRefused):

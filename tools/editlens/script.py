@@ -33,6 +33,7 @@ HOW: dict[str, dict[str, Any]] = {
     "--like": {"metavar": "FILE"},
     "--left-file": {"metavar": "FILE"},
     "--right-file": {"metavar": "FILE"},
+    "--base": {"metavar": "N", "type": int},
 }
 
 

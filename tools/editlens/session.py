@@ -27,6 +27,15 @@ class DocumentsDiffer(Exception):
         super().__init__("the documents that were followed are not those of the program")
 
 
+def words_by_side(change: Any, words: Any) -> dict[str, Any]:
+    """The word of each side in a change, whose entries were answered by these pairs of a side and a word."""
+    found: dict[str, Any] = {"left": [], "right": []}
+    for entry, (other, word) in zip(change.get("group", [change]), words):
+        found[entry["side"]] = found[entry["side"]] + entry["edit"]
+        found[other] = found[other] + word
+    return found
+
+
 class Run:
     """A run of a command over a script: its program part is sent at once, and then line after line is answered.
 

@@ -70,7 +70,6 @@ def test_files_of_both_sides():
         one = undrawn(shown(server, "left")["tree"])[1]
         assert one["discount"] == "5.10" and undrawn(shown(server, "right")["tree"])["c-1001"]["discount"].text == "5.10"
         assert server.desk.history[-1]["sentences"] == ['right: customers, key "c-1001", discount: set to "5.10"'], server.desk.history[-1]
-        assert patched(server, 0, "left", "[]")["cause"] == "stale"
         # An edit of a document comes to the file as well.
         edit = [{"at": ["customers", [{"mod": ["c-1002", [{"at": ["fax", [{"switch": ["none", "some", [{"set": "7"}]]}]]}]]}]]}]
         assert sent(server, "edit", base=1, side="left", edit=edit)["ok"]

@@ -79,7 +79,8 @@ def test_edits_are_taken_one_after_another():
     with served(desk) as server:
         assert sent(server, "edit", base=0, side="left", edit=PAINT) == {"ok": True, "version": 1}
         said = sent(server, "edit", base=0, side="right", edit=[{"at": ["board", [{"at": ["todo", [{"del": 1}]]}]]}])
-        assert said["cause"] == "stale" and said["since"] == ["left: plan: 1 item added at the end", 'left: plan, item 0, todo: set to "Paint"'], said
+        assert (said["cause"], said["sentence"]) == ("range", "a count or a place goes past what is there; it was []"), said
+        assert said["since"] == ["left: plan: 1 item added at the end", 'left: plan, item 0, todo: set to "Paint"'], said
         said = sent(server, "edit", base=1, side="right", edit=[{"at": ["board", [{"at": ["todo", [{"del": 2}]]}]]}])
         assert (said["cause"], said["place"], said["allowed"]) == ("range", "/board/todo", "from 1 to 1 items, which is all that it has"), said
         said = sent(server, "edit", base=1, side="left", edit=[{"ins": 0}])
@@ -91,7 +92,7 @@ def test_edits_are_taken_one_after_another():
 
 
 def test_two_edits_at_once():
-    """Many windows send an edit of the same version at the same time: one is taken."""
+    """Many windows send an edit of the same version at the same time: one after another is taken, each carried over those before it."""
     desk, said = Desk(RunKeeper(SMALL), "small"), []
     with served(desk) as server:
         def one():
@@ -100,7 +101,7 @@ def test_two_edits_at_once():
         threads = [threading.Thread(target=one) for _ in range(8)]
         [it.start() for it in threads]
         [it.join() for it in threads]
-        assert sorted(it["ok"] for it in said) == [False] * 7 + [True] and desk.keeper.documents["right"] == {"b": 1}
+        assert sorted(it["version"] for it in said) == list(range(1, 9)) and desk.keeper.documents["right"] == {"b": 8}, said
 
 
 def test_what_the_server_refuses():
@@ -312,7 +313,8 @@ def test_another_program_is_loaded():
     said = desk.load(1, "main {a ~ b: id int, left hours: text, right note: text}")
     assert said["ok"] and [it.split(":")[0] for it in said["notices"]] == ["left /hours", "right /note"], said
     assert desk.keeper.documents == {"left": {"a": 4, "hours": ""}, "right": {"b": 4, "note": ""}}
-    assert desk.edit(1, "left", [])["cause"] == "stale" and desk.edit(2, "left", [])["ok"]
+    said = desk.edit(1, "left", [{"at": ["a", [{"add": 1}]]}])
+    assert said["cause"] == "base" and said["since"] == ["another lens program was loaded"] and desk.edit(2, "left", [])["ok"], said
     desk.close()
 
 

@@ -42,8 +42,8 @@ def test_edits_of_a_hub_and_of_its_views():
         assert first["hub"]["view"] == 0 and [it["about"] for it in first["hub"]["views"]] == ["x", "p, q"] and first["mode"] == "session", first["hub"]
         assert sent(server, "edit", base=0, side="right", view=0, edit=SET3) == {"ok": True, "version": 1}
         assert sent(server, "edit", base=1, side="left", edit=[{"at": ["b", [{"set": 2}]]}])["ok"]
-        said = sent(server, "edit", base=1, side="right", view=1, edit=[])
-        assert said["cause"] == "stale" and said["since"] == ["hub: b: set to 2"], said
+        said = sent(server, "edit", base=1, side="right", view=1, edit=[{"at": ["q", [{"set": "x"}]]}])
+        assert said["cause"] == "kind" and said["since"] == ["hub: b: set to 2"], said
         said = sent(server, "edit", base=2, side="right", view=1, edit=[{"at": ["q", [{"set": "x"}]]}])
         assert (said["cause"], said["place"], said["side"]) == ("kind", "/q", "view 1"), said
         assert keeper.documents == {"hub": {"a": 3, "b": 2}, 0: {"x": 3}, 1: {"p": 3, "q": 2}}

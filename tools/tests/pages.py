@@ -247,13 +247,10 @@ def test_two_windows():
         shown = "return document.activeElement.value"
         assert page.run(shown) == "Tiles", page.run(shown)
         page.press("Enter")
-        page.until(lambda: "stale" in window.says("#message"), "the late edit was not refused")
-        said = window.says("#message")
-        assert "item 0 moved to place 1" in said and "Your text was: Tiles" in said, said
-        window.shows_what_the_program_says()
-        assert window.desk.keeper.documents["right"]["board"]["todo"] == ["Roof", "Paint"] and window.desk.version == 1
-        window.write("right", ("board", "todo", 0), "Tiles", "Enter")
         window.after(2)
+        window.shows_what_the_program_says()
+        assert window.desk.keeper.documents["right"]["board"]["todo"] == ["Tiles", "Paint"], "the late edit did not come to its item"
+        assert "begun before other changes, as" in window.says("#last-edit"), window.says("#last-edit")
         page.use(first)
         window.shows_what_the_program_says()
         page.use(second)
@@ -266,6 +263,26 @@ def test_two_windows():
         page.press("Enter")
         window.after(4)
         assert window.desk.keeper.documents["right"]["color"] == "green"
+        page.use(first)
+        page.close_others()
+
+
+def test_a_late_edit_of_what_is_gone():
+    """An item goes while another window writes in it. The page says why that was not sent, what it was, and what changed since."""
+    with started(TASKS, {"hours": 1, "plan": [{"todo": "Paint"}, {"todo": "Roof"}]}) as window:
+        page, first = window.browser, window.browser.window
+        page.use(page.new_window())
+        page.open(window.url)
+        window.write("right", ("board", "todo", 1), "Tiles")
+        # The other window has shown nothing of it yet when its edit comes.
+        assert window.desk.edit(0, "left", [{"at": ["plan", [{"del": 1}]]}])["ok"]
+        page.run("const at = arguments[0]; page.send(page.sides.right, [{at: ['board', [{at: ['todo', [{mod: [1, [{set: 'Tiles'}]]}]]}]]}], {base: at})", 0)
+        page.until(lambda: "refused: gone" in window.says("#message"), "the late edit was not refused")
+        said = window.says("#message")
+        assert "another edit has deleted or replaced it" in said and 'right: board, todo, item 1: set to "Tiles"' in said, said
+        assert "Since then:" in said and "1 item deleted from the end" in said, said
+        window.after(1)
+        window.shows_what_the_program_says()
         page.use(first)
         page.close_others()
 

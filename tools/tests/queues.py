@@ -203,7 +203,8 @@ def test_a_store_and_a_queue_that_do_not_belong_together():
     with queue() as here:
         here.store.apply(lines()[:1])
         here.store.pack()
-        assert "changes of the store without an answer, 1, cannot be taken back: store refused: nothing-to-undo" in here.ends(status=1)
+        here.ends()
+        assert here.is_whole(), "a snapshot behind the changes without an answer is no fault"
     with queue() as here:
         here.ends()
         os.remove(here.store.file)

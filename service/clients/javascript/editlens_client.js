@@ -91,9 +91,13 @@ export class Client {
     return treeOf(await this.send(method, path, headers, body));
   }
 
-  /** Sends a request that changes something, behind those of its pair. `expected` is the number of the state that it is made for. */
-  async change(method, path, kind, body, { expected = null, key = freshKey() } = {}) {
+  /**
+   * Sends a request that changes something, behind those of its pair. `expected` is the number of the state that it is made for: an edit and
+   * a patch are carried from there to the newest state, or refused. A `strict` one is refused unless that state is the newest.
+   */
+  async change(method, path, kind, body, { expected = null, key = freshKey(), strict = false } = {}) {
     const headers = { "Content-Type": kind, "Idempotency-Key": key, ...(expected === null ? {} : { "If-Match": `"${expected}"` }) };
+    if (strict) headers.Prefer = "handling=strict";
     this.pending.set(key, { method, path, body });
     this.waits(this.pending);
     try {

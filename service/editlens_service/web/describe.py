@@ -64,6 +64,7 @@ QUERY: "dict[Any, tuple[str, ...]]" = {
     streams.changes: ("after",),
     edits.patch: ("drop-private",),
 }
+CARRYING = (edits.entries, edits.patch)
 CHANGING = (edits.entries, edits.mixed, edits.patch, edits.undo, programs.change)
 KEYED = (*CHANGING, pairs.make, stores.bring)
 
@@ -89,6 +90,8 @@ def _operation(route: Any) -> "dict[str, Any]":
         parameters.append(_parameter("Idempotency-Key", "header"))
     if handler in CHANGING:
         parameters.append(_parameter("If-Match", "header"))
+    if handler in CARRYING:
+        parameters.append(_parameter("Prefer", "header"))
     if handler is streams.changes:
         parameters.append(_parameter("Last-Event-ID", "header", NUMBER))
     status, kind, schema = ANSWER.get(handler, (200, "application/json", OBJECT))
@@ -114,8 +117,9 @@ def describe() -> "dict[str, Any]":
     paths: "dict[str, Any]" = {}
     for route in app.ROUTES:
         paths.setdefault(path_of(route.path)[0], {})[route.method.lower()] = _operation(route)
-    answer = _object(ok={"type": "boolean"}, number=NUMBER, edits=OBJECT, cause=TEXT, at=NUMBER, part=NUMBER, why=TEXT)
-    problem = _object(type=TEXT, title=TEXT, status={"type": "integer"}, detail=TEXT, cause=TEXT, at=NUMBER, part=NUMBER)
+    late = {"newest": NUMBER, "lost": {"type": "array", "items": TEXT}, "rests-on": NUMBER}
+    answer = _object(ok={"type": "boolean"}, number=NUMBER, edits=OBJECT, carried={"type": "boolean"}, cause=TEXT, at=NUMBER, part=NUMBER, why=TEXT, **late)
+    problem = _object(type=TEXT, title=TEXT, status={"type": "integer"}, detail=TEXT, cause=TEXT, at=NUMBER, part=NUMBER, why=TEXT, **late)
     return {
         "openapi": "3.1.0",
         "info": {"title": "editlens", "version": VERSION, "description": "Pairs and hubs of JSON documents that are kept in step by their edits."},

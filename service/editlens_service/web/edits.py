@@ -9,13 +9,16 @@ from aiohttp import web
 from editlens.answers import Refused as ToolRefused
 from editlens.json_text import NotJson, read_json, write_json
 from editlens.natural import NoCounterpart, NotWritable, read_file, read_form, to_edit, to_patch, write_file
+from editlens.natural.to_edit import carried_parts
+from editlens.older import NotTaken, OlderEdits
 from editlens.private import Private, PrivateLoss, takes_away
 from editlens.trial import carry
 
 from .. import tables
 from ..drafts import Draft, Kept, Made, step_all
 from ..engine import HUB, OTHER, PairState, SIDES, Session
-from ..problems import Conflict, Gone, NotAllowed, NotFound, Problem, Refused, TooLarge, cause_of
+from ..older import late_answer, line_for, older_edits, step_late
+from ..problems import Conflict, Gone, NotAllowed, NotCarried, NotFound, Problem, Refused, TooLarge, cause_of
 from .pairs import etag, said
 from .requests import About, about, body_of, change_of, json_of, member, need_type
 
@@ -24,7 +27,11 @@ PATCH = "application/json-patch+json"
 
 
 async def entries(request: web.Request) -> web.Response:
-    """Takes the lines of a journal: edits of the document of the path, each an edit or an entry. Each line is accepted or refused alone."""
+    """Takes the lines of a journal: edits of the document of the path, each an edit or an entry. Each line is accepted or refused alone.
+
+    With an If-Match of an older state, the lines were made one after another, the first for that state. They are carried to the newest
+    state, or refused with a cause. With `Prefer: handling=strict` they are refused unless that state is the newest.
+    """
     it = await about(request, "edit")
     need_type(request, *JOURNAL)
     body = await body_of(request)
@@ -66,14 +73,26 @@ def _of_document(it: About, line: bytes) -> bytes:
 
 async def _answered(request: web.Request, it: About, body: bytes, lines: "list[bytes]", document: "str | None" = None) -> web.Response:
     async def work(kept: Kept) -> Made:
+        late = change.late(kept.number)
+        if late is not None:
+            assert document is not None
+            return step_late(kept, document, lines, await _older(it, kept, document, late))
         made = step_all(kept, lines)
         if document is not None and any(draft.side != document for draft in made.drafts):
             # The engine has read a line in another way than it was read here. The state is thrown away, and nothing is stored.
             raise NotAllowed(f"a line is not an edit of {document}")
         return made
 
-    reply, is_earlier = await it.service.keeper.change(it.kind, it.pair, change_of(request, it.who, body, work))
+    change = change_of(request, it.who, body, work, carries=document is not None)
+    reply, is_earlier = await it.service.keeper.change(it.kind, it.pair, change)
     return _shown(it, reply, is_earlier)
+
+
+async def _older(it: About, kept: Kept, document: str, number: int) -> OlderEdits:
+    """A document as it was in an older state. Raises NotCarried, and NotFound where there is no such view."""
+    if document not in kept.state.names:
+        raise NotFound(f"there is no view {document}")
+    return await older_edits(it.service.keeper, it.service.database, it.kind, kept, document, number)
 
 
 def _shown(it: About, reply: "dict[str, Any]", is_earlier: bool) -> web.Response:
@@ -82,11 +101,15 @@ def _shown(it: About, reply: "dict[str, Any]", is_earlier: bool) -> web.Response
     headers = {**etag(reply["number"]), **({"Idempotency-Replayed": "true"} if is_earlier else {})}
     if len(answers) == 1 and not answers[0]["ok"]:
         cause = {name: found for name, found in answers[0].items() if name != "ok"}
+        if "late" in reply["answers"][0]:
+            raise NotCarried(**cause)
         raise Refused(f"the edit is refused: {cause['why']}", headers, number=reply["number"], **cause)
     return said({"number": reply["number"], "answers": answers}, 200, headers)
 
 
 def _answer(it: About, one: "dict[str, Any]") -> "dict[str, Any]":
+    if "late" in one:
+        return {"ok": False, **one["late"]}
     if not one["ok"]:
         where = {name: one[name] for name in ("place", "found", "allowed") if name in one}
         is_shown = where and it.who.may("read", it.kind, it.name, one["document"])
@@ -94,13 +117,15 @@ def _answer(it: About, one: "dict[str, Any]") -> "dict[str, Any]":
     names = SIDES if it.kind == "pair" else (HUB, *map(str, range(64)))
     words = dict(zip(names, read_json(one["words"])))
     shown = {name: word for name, word in words.items() if it.who.may("read", it.kind, it.name, name)}
-    return {"ok": True, "number": one["number"], "edits": shown}
+    return {"ok": True, "number": one["number"], "edits": shown, **({"carried": True} if one.get("carried") else {})}
 
 
 async def patch(request: web.Request) -> web.Response:
     """Takes a JSON Patch (RFC 6902) of the document, or of the file by its form file. It is one change, accepted or refused as a whole.
 
-    A patch by which the other side would lose what it alone has is refused, unless `?drop-private=true` says otherwise.
+    A patch by which the other side would lose what it alone has is refused, unless `?drop-private=true` says otherwise. With an If-Match of
+    an older state it is a patch of the file as it was then: it is carried to the newest state, or refused with a cause. `sent` has what was
+    done. With `Prefer: handling=strict` it is refused unless that state is the newest.
     """
     it = await about(request, "edit")
     need_type(request, PATCH)
@@ -112,9 +137,12 @@ async def patch(request: web.Request) -> web.Response:
     drops = request.query.get("drop-private") == "true"
 
     async def work(kept: Kept) -> Made:
-        return _patched(it, kept, ops, drops)
+        late = change.late(kept.number)
+        older = None if late is None else await _older(it, kept, str(it.document), late)
+        return _patched(it, kept, ops, drops, older)
 
-    reply, is_earlier = await it.service.keeper.change(it.kind, it.pair, change_of(request, it.who, body, work))
+    change = change_of(request, it.who, body, work, carries=True)
+    reply, is_earlier = await it.service.keeper.change(it.kind, it.pair, change)
     if not reply["answers"][0]["ok"]:
         return _shown(it, reply, is_earlier)
     headers = {**etag(reply["number"]), **({"Idempotency-Replayed": "true"} if is_earlier else {})}
@@ -123,8 +151,8 @@ async def patch(request: web.Request) -> web.Response:
     return said({"number": reply["number"], "answers": [answer], "sent": reply["sent"], "patches": shown}, 200, headers)
 
 
-def _patched(it: About, kept: Kept, ops: Any, drops: bool) -> Made:
-    """What a patch makes of a state."""
+def _patched(it: About, kept: Kept, ops: Any, drops: bool, older: "OlderEdits | None") -> Made:
+    """What a patch makes of a state. `older` has the document of the state for which it was made, where that is another one."""
     state, name, forms = kept.state, str(it.document), read_json(it.forms)
     if name not in state.names:
         raise NotFound(f"there is no view {name}")
@@ -132,19 +160,22 @@ def _patched(it: About, kept: Kept, ops: Any, drops: bool) -> Made:
     before = {each: read_json(state.document(each)) for each in state.names}
     shapes = {each: read_form(types[each], forms.get(each, {})) for each in state.names}
     try:
-        made = to_edit(shapes[name], before[name], ops)
+        made = to_edit(shapes[name], before[name] if older is None else older.near, ops)
+        now = made if older is None else carried_parts(made, older.carried(*(part.word() for part in made.parts)))
         if not drops and isinstance(state, PairState):
-            _need_no_loss(state, read_json(kept.opening)["program"], name, made.parts)
+            _need_no_loss(state, read_json(kept.opening)["program"], name, now.parts)
     except NoCounterpart as why:
         raise Refused(str(why), cause="no-counterpart", operation=why.number) from None
     except PrivateLoss as why:
         raise Refused(str(why), cause="private-loss", operation=why.number, places=list(map(list, why.places))) from None
-    key = "side" if state.kind == "pair" else "at"
-    at: "str | int" = int(name) if name.isdigit() else name
-    found = step_all(kept, [write_json({key: at, "edit": made.word}).encode()])
-    found.reply["sent"] = read_json(write_file(made.patch))
+    except NotTaken as why:
+        raise NotCarried(**late_answer(why, kept.number), operation=made.parts[why.word].number) from None
+    found = step_all(kept, [line_for(state, name, now.word)])
+    found.reply["sent"] = read_json(write_file(made.patch)) if older is None else _patch_of(shapes[name], before[name], now.word)
     found.reply["patches"] = {}
     if found.drafts:
+        if now.word != made.word:
+            found.reply["answers"][0]["carried"] = True
         for other, word in zip(state.names, read_json(str(found.drafts[0].words))):
             if other != name:
                 found.reply["patches"][other] = _patch_of(shapes[other], before[other], word)

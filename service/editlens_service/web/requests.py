@@ -172,6 +172,12 @@ def expected_of(request: web.Request) -> "int | None":
     return int(found[1])
 
 
+def is_strict(request: web.Request) -> bool:
+    """Whether a request wants to be refused where its state is not the newest: by `Prefer: handling=strict` (RFC 7240)."""
+    given = ",".join(request.headers.getall("Prefer", []))
+    return any(it.partition(";")[0].replace(" ", "").replace('"', "").lower() == "handling=strict" for it in given.split(","))
+
+
 def number_of(request: web.Request, name: str, default: int, most: int = 2**53) -> int:
     """A number in the query."""
     text = request.query.get(name)
@@ -182,11 +188,14 @@ def number_of(request: web.Request, name: str, default: int, most: int = 2**53) 
     return min(int(text), most)
 
 
-def change_of(request: web.Request, who: Who, body: bytes, work: "Work | None" = None) -> Change:
-    """The change that a request asks for. One without an Idempotency-Key gets a name of its own."""
+def change_of(request: web.Request, who: Who, body: bytes, work: "Work | None" = None, carries: bool = False) -> Change:
+    """The change that a request asks for. One without an Idempotency-Key gets a name of its own.
+
+    `carries` says that its work carries what was made for an older state, unless the request is strict.
+    """
     given = request.headers.get("Idempotency-Key")
     if given is not None and not KEY.match(given):
         raise Problem("an Idempotency-Key has from 1 to 200 visible ASCII characters")
     key = f"{who.author}/{given or 'unnamed-' + uuid.uuid4().hex}"
     digest = hashlib.sha256(b"\0".join([request.method.encode(), request.path.encode(), body])).hexdigest()
-    return Change(key, given is not None, digest, who.author, expected_of(request), work)
+    return Change(key, given is not None, digest, who.author, expected_of(request), work, carries and not is_strict(request))

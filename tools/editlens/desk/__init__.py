@@ -1,7 +1,7 @@
 """The desk: a page in the browser on which a person sees both documents of a session, edits either, and watches the other follow.
 
 keepers     where the session is kept: in a run of the program, or in a store
-shared      the session as all windows share it: its state, its edits one after another, its history
+shared      the session as all windows share it: its state, its edits one after another, also for older states, its history
 desk        the desk of a pair
 hub_keepers where a hub is kept
 hub_desk    the desk of a hub

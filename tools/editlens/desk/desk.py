@@ -8,6 +8,7 @@ from ..answers import ProgramRefused, Refused, RunEnded
 from ..json_text import write_json
 from ..lenses import read_lens
 from ..natural import FormFault, read_file
+from ..older import NotTaken, OlderEdits, OlderStates
 from ..session import DocumentsDiffer
 from .complement import remembered
 from .files import NOT_TAKEN, drawn_file, refused_patch
@@ -60,17 +61,17 @@ class Desk(Shared):
             return {"version": self.version, "session": self.session, **drawn_file(self.keeper.files, side)}
 
     def patch(self, base: Any, side: str, text: str, drop_private: bool = False) -> dict[str, Any]:
-        """Sends the text of a JSON Patch of a side's file that was made for a version.
+        """Sends the text of a JSON Patch of a side's file that was made for a version. Of an older one it is carried, as an edit is.
 
         `drop_private` says that the other side may lose what it alone has.
         """
         with self.news:
-            stale = self._stale(base)
-            if stale:
-                return stale
             before = dict(self.keeper.documents)
             try:
-                done = self.keeper.patch(side, read_file(text), drop_private)
+                older = OlderEdits(self.older, side, base) if base != self.version else None
+                done = self.keeper.patch(side, read_file(text), drop_private, older)
+            except NotTaken as why:
+                return {**self._not_taken(base, side, why.edit, why), "patch": text}
             except NOT_TAKEN as why:
                 return refused_patch(why, side, text)
             except (RunEnded, DocumentsDiffer, OSError) as why:
@@ -101,6 +102,7 @@ class Desk(Shared):
             self.notices, self.history, self.changes, self.fault = notices, [], {}, None
             self.replaced = None
             self.session += 1
+            self.older = OlderStates(keeper.types, self.version + 1, dict(keeper.documents))
             self._moved()
             return {"ok": True, "version": self.version, "notices": notices}
 

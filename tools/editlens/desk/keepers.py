@@ -19,6 +19,7 @@ from ..json_text import read_json, write_json
 from ..lines import lines_of
 from ..load import Disagreement, DoesNotFit, load_words
 from ..natural.files import Files, Patched
+from ..older import OlderEdits
 from ..open_store import stored_program
 from ..parts import SEPARATOR, program_of
 from ..session import DocumentsDiffer, Session
@@ -110,9 +111,9 @@ class RunKeeper(LineKeeper):
         """The users' files of both sides."""
         return self.session.files
 
-    def patch(self, side: str, patch: Any, drop_private: bool = False) -> Patched:
-        """Sends a JSON Patch of the file of a side, and returns what came of it, as Patched."""
-        done = self.session.files.patch(side, patch, drop_private)
+    def patch(self, side: str, patch: Any, drop_private: bool = False, older: OlderEdits | None = None) -> Patched:
+        """Sends a JSON Patch of the file of a side, or of an older one, and returns what came of it, as Patched."""
+        done = self.session.files.patch(side, patch, drop_private, older)
         self._took(side, done.word)
         return done
 
@@ -186,9 +187,9 @@ class StoreKeeper:
         """The users' files of both sides."""
         return self.client.files
 
-    def patch(self, side: str, patch: Any, drop_private: bool = False) -> Patched:
-        """Sends a JSON Patch of the file of a side, and returns what came of it, as Patched. It is on the disk then."""
-        return self.client.files.patch(side, patch, drop_private)
+    def patch(self, side: str, patch: Any, drop_private: bool = False, older: OlderEdits | None = None) -> Patched:
+        """Sends a JSON Patch of the file of a side, or of an older one. Returns what came of it, as Patched. It is on the disk then."""
+        return self.client.files.patch(side, patch, drop_private, older)
 
     def undo(self) -> dict[str, Any]:
         """Takes the last change back, and returns the edits that did so, by their sides."""

@@ -9,9 +9,11 @@ from typing import Any, Callable, Iterable, Sequence
 from ..answers import Refused, RunEnded
 from ..causes import CAUSES
 from ..changes import SET, changed_places
-from ..edits import NoApply, act, form_fault
+from ..edits import NoApply, NotAnEdit, act, form_fault
 from ..json_text import pointer, shown, write_json
 from ..lock import StoreBusy
+from ..named import NotFound, with_places
+from ..older import BASE, MOST_CHANGES, NotTaken, OlderEdits, OlderStates
 from ..sentences import sentences
 from ..session import DocumentsDiffer
 from ..store import StoreRefused
@@ -21,10 +23,12 @@ from .news import at_path, replaced
 MOST_HISTORY = 200
 MOST_SENTENCES = 5
 MOST_REST = 30
+LATE_BASE = f"This edit was begun so long ago that it cannot be carried over: that is done over the last {MOST_CHANGES:,} changes."
 
 
 class Shared:
-    """The session of a desk. Its version is the number of changes since it began; an edit names the version that it was made for.
+    """The session of a desk. Its version is the number of changes since it began; an edit names the version that it was made for. One that
+    was made for an older version is carried to this one, or refused with a cause. `older` has the versions for which that is done.
 
     `keeper` has the documents by their names, their types, and takes edits of them. A window shows two of them, its sides: `names_of` says
     which. `edit`, `undo` and `redo` return what came of them, and change nothing where they refuse. `wait` returns when there is something
@@ -36,6 +40,7 @@ class Shared:
     def __init__(self, keeper: Any, title: str, notices: Iterable[str] = ()) -> None:
         self.keeper, self.title, self.notices = keeper, title, list(notices)
         self.version = self.session = self.signal = 0
+        self.older = OlderStates(keeper.types, 0, dict(keeper.documents))
         self.history: list[Any] = []
         self.changes: dict[Any, Any] = {}
         self.replaced: Any = None
@@ -130,19 +135,45 @@ class Shared:
         return {"replaced": values, "changes": drawn_changes(self.changes.get(name, ()))}
 
     def edit(self, base: Any, name: Any, edit: Any) -> dict[str, Any]:
-        """Sends an edit of a document that was made for a version."""
+        """Sends an edit of a document that was made for a version.
+
+        Where that is an older one and the edit has become another one, the answer has that as `carried`. What others have done already is
+        not sent again.
+        """
         with self.news:
-            stale = self._stale(base)
-            if stale:
-                return stale
-            before = dict(self.keeper.documents)
             try:
-                answer = self.keeper.entry(name, edit)
-            except Refused as why:
-                return self._refused(name, edit, why)
-            except (RunEnded, DocumentsDiffer, OSError, ValueError) as why:
-                return self._failed(why)
-            return self._taken(before, name, edit, answer)
+                edits = OlderEdits(self.older, name, base)
+                edit, _ = with_places(self.keeper.types[name], edits.near, edit)
+                carried = edit if base == self.version else edits.carried(edit)[0]
+            except (NotAnEdit, RecursionError) as why:
+                return self._not_done(name, edit, "not-an-edit", str(why))
+            except NotFound as why:
+                return self._not_done(name, edit, "not-found", str(why))
+            except NoApply as why:
+                said = self._not_done(name, edit, why.cause, f"{CAUSES[why.cause]}; it was {shown(why.value)}")
+                return {**said, "at": why.at, **({} if base == self.version else {"since": self._since(base)})}
+            except NotTaken as why:
+                return self._not_taken(base, name, edit, why)
+            return self._sent(name, edit) if base == self.version else self._sent_carried(name, edit, carried)
+
+    def _sent_carried(self, name, edit, carried):
+        if next(sentences(carried), None) is None:
+            return {"ok": True, "version": self.version, "carried": write_json(carried)}
+        said = self._sent(name, carried)
+        if not said["ok"] or carried == edit:
+            return said
+        self.history[-1]["begun"] = write_json(edit)
+        return {**said, "carried": write_json(carried)}
+
+    def _sent(self, name, edit):
+        before = dict(self.keeper.documents)
+        try:
+            answer = self.keeper.entry(name, edit)
+        except Refused as why:
+            return self._refused(name, edit, why)
+        except (RunEnded, DocumentsDiffer, OSError, ValueError) as why:
+            return self._failed(why)
+        return self._taken(before, name, edit, answer)
 
     def undo(self, base: Any) -> dict[str, Any]:
         """Takes the last change back."""
@@ -193,26 +224,34 @@ class Shared:
             self.news.notify_all()
 
     def _stale(self, base):
-        """The refusal of what was made for another version than this one, with what changed since."""
+        """The refusal of what is no edit, and was asked for when another version than this one was there, with what changed since."""
         if base == self.version:
             return None
-        since = [it for it in self.history if it["version"] > base]
-        said = [line for it in since for line in it["sentences"]]
+        sentence = "The documents changed after you began this, so it was not done."
+        return {"ok": False, "cause": "stale", "version": self.version, "sentence": sentence, "since": self._since(base)}
+
+    def _since(self, base):
+        """What changed since a version, as lines."""
+        said = [line for it in self.history if it["version"] > base for line in it["sentences"]]
         more = [f"and {len(said) - MOST_SENTENCES} more changes"] if len(said) > MOST_SENTENCES else []
-        return {
-            "ok": False,
-            "stale": True,
-            "cause": "stale",
-            "version": self.version,
-            "sentence": "The documents changed after you began this edit, so it was not sent. Nothing of it was applied.",
-            "since": said[:MOST_SENTENCES] + more or ["another lens program was loaded"],
-        }
+        return said[:MOST_SENTENCES] + more or ["another lens program was loaded"]
+
+    def _not_taken(self, base, name, edit, why):
+        """The refusal of an edit that was made for an older version and has no place in this one: why, which edit, and what changed since."""
+        sentence = LATE_BASE if why.cause == BASE else why.sentence
+        lost = said_of(self.said_name(name), edit) if edit else []
+        return {**self._not_done(name, edit, why.cause, sentence), "at": why.at, "lost": lost, "since": self._since(base)}
+
+    def _not_done(self, name, edit, cause, sentence):
+        said = {"ok": False, "cause": cause, "side": self.said_name(name), "version": self.version, "edit": write_json(edit)}
+        return {**said, "place": None, "allowed": None, "sentence": sentence}
 
     def _changed(self, before, words, entry, edited):
         """Takes words over that changed documents, by their names. The sentences of the change are those of the word of one of them."""
         types = self.keeper.types
         self.changes = {name: changed_places(types[name], before[name], word) for name, word in words.items()}
         self.replaced = {name: replaced(types[name], word) for name, word in words.items()}
+        self.older.changed(words, dict(self.keeper.documents))
         self._moved()
         self._remember(self.said_name(edited), words[edited], entry)
 
@@ -220,19 +259,19 @@ class Shared:
         """The state before an edit is there again. No edit leads to it, so each place counts as changed."""
         self.changes = {it: [((), SET)] for it in self.keeper.types}
         self.replaced = {it: [()] for it in self.keeper.types}
+        if not self.older.went_back():
+            self.older = OlderStates(self.keeper.types, self.version + 1, dict(self.keeper.documents))
         self._moved()
         self._remember(self.said_name(name), edit, {"side": self.said_name(name), "undo": True, "taken": True})
 
     def _remember(self, name, edit, entry):
         """Puts a change into the history. Its sentences are those of an edit of a document."""
-        said = list(sentences(edit)) or ["nothing"]
-        kept = said[:MOST_SENTENCES] + ([f"and {len(said) - MOST_SENTENCES} more"] if len(said) > MOST_SENTENCES else [])
         for older in self.history[-1:]:
             # A person reads the edits of the last change alone, and those of a long history are long.
-            for it in ("edit", "word", "others"):
+            for it in ("edit", "word", "others", "begun"):
                 older.pop(it, None)
         del self.history[: 1 - MOST_HISTORY]
-        self.history.append({"version": self.version, "sentences": [f"{name}: {it}" for it in kept], **entry})
+        self.history.append({"version": self.version, "sentences": said_of(name, edit), **entry})
 
     def _moved(self):
         self.version += 1
@@ -291,6 +330,13 @@ class Shared:
                     self.complement = {"version": done, **tell(tree)}
                     self._notify()
             time.sleep(min(MOST_REST, time.monotonic() - begin))
+
+
+def said_of(name: str, edit: Any) -> list[str]:
+    """An edit of a document in sentences, of which the first few are enough."""
+    said = list(sentences(edit)) or ["nothing"]
+    kept = said[:MOST_SENTENCES] + ([f"and {len(said) - MOST_SENTENCES} more"] if len(said) > MOST_SENTENCES else [])
+    return [f"{name}: {it}" for it in kept]
 
 
 def _no_undo(why):

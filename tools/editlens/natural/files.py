@@ -7,11 +7,12 @@ from typing import Any, Iterable
 
 from ..answers import OTHER, Accepted
 from ..edits import NoApply, act
+from ..older import NotTaken, OlderEdits
 from ..private import takes_away
 from ..trial import Trial
 from .forms import read_form
 from .places import NotWritable, Written, to_file
-from .to_edit import to_edit
+from .to_edit import carried_parts, to_edit
 from .to_patch import to_patch
 
 
@@ -61,20 +62,45 @@ class Files:
     def _patch(self, side, document, word):
         return to_patch(self.shapes[side], document, word, self._written[side])
 
-    def patch(self, side: str, patch: Any, drop_private: bool = False) -> Patched:
+    def patch(self, side: str, patch: Any, drop_private: bool = False, older: OlderEdits | None = None) -> Patched:
         """Sends a JSON Patch of the file of a side. Returns what comes of it, as Patched.
 
         Raises NoCounterpart where no edit makes it, PrivateLoss where the other side would lose what it alone has, unless `drop_private`,
         NotWritable where the other file could not show what comes of it, and Refused. Nothing has changed then.
+
+        `older` has the document of an older file, for which the patch was made. Then it is carried to the file of now, or NotTaken is
+        raised. What was sent is in the answer. NotWritable is raised, too, where this side's own file could not show it.
         """
         with self.session.lock, self.trial.kept_in_step():
-            before = self.session.documents
-            made = self._edit(side, before[side], patch)
-            if self._needs_trial(side, made, drop_private):
-                self._try(side, made, drop_private)
-            answer = self.session.entry(side, made.word)
-            other = OTHER[side]
-            return Patched(answer, self._patch(other, before[other], answer.word), made.patch, made.word)
+            if older is None:
+                return self._send(side, self._edit(side, self.session.documents[side], patch), drop_private)
+            made = to_edit(self.shapes[side], older.near, patch)
+            try:
+                with older.taking(*(it.word() for it in made.parts)) as words:
+                    return self._send(side, self._carried(side, made, words), drop_private)
+            except NotTaken as why:
+                why.operation = made.parts[why.word].number if made.parts else None
+                raise
+
+    def _send(self, side, made, drop_private):
+        before, other = self.session.documents, OTHER[side]
+        if self._needs_trial(side, made, drop_private):
+            self._try(side, made, drop_private)
+        answer = self.session.entry(side, made.word)
+        return Patched(answer, self._patch(other, before[other], answer.word), made.patch, made.word)
+
+    def _carried(self, side, made, words):
+        """What was made of a patch of an older file, with these words for its parts, as a patch of the file of now."""
+        before = self.session.documents[side]
+        now = carried_parts(made, words)
+        document = act(self.session.types[side], before, now.word)
+        try:
+            now.file = self._file(side, document)
+        except NotWritable as why:
+            why.side = side
+            raise
+        now.document, now.patch = document, self._patch(side, before, now.word)
+        return now
 
     def group(self, *patches: tuple[str, Any], drop_private: bool = False) -> PatchedGroup:
         """Sends patches, each a side and a JSON Patch, that are accepted together or not at all. Returns what comes of it, as PatchedGroup.

@@ -8,7 +8,7 @@ of the document after the edit.
 from __future__ import annotations
 
 from dataclasses import dataclass, replace as changed
-from typing import Any
+from typing import Any, Sequence
 
 from ..construct import add_step, word_of
 from ..edits import NoApply, act
@@ -61,6 +61,14 @@ class Translated:
         for part in parts:
             for path, primitive in part.steps:
                 add_step(self.word, path, primitive)
+
+
+def carried_parts(made: Translated, words: Sequence[Any]) -> Translated:
+    """The same patch with another word for each of its parts. Where each is as it was, the edit is the same."""
+    if list(words) == [it.word() for it in made.parts]:
+        return Translated(made.parts, made.document, made.file)
+    parts = [changed(part, steps=[((), it) for it in word]) for part, word in zip(made.parts, words)]
+    return Translated(parts, made.document, made.file)
 
 
 def to_edit(shape: Shape, document: Any, patch: Any, files: Written | None = None) -> Translated:

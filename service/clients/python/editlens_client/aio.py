@@ -107,14 +107,17 @@ class AsyncDocument:
         headers, _, tree = await self.client.send(Call("GET", self.path()))
         return tree, wire.number_of(headers.get("ETag"))
 
-    async def edit(self, edit: Any, expected: "int | None" = None, key: "str | None" = None) -> Answer:
-        """Sends an edit. Raises Refusal. `expected` is the number of the state that it is made for: if it is not the newest, nothing changes."""
-        call = wire.change("POST", self.path("/edits"), "application/x-ndjson", wire.write(edit), expected, key)
+    async def edit(self, edit: Any, expected: "int | None" = None, key: "str | None" = None, strict: bool = False) -> Answer:
+        """Sends an edit. Raises Refusal. `expected` is the number of the state that it is made for.
+
+        It is carried from there to the newest state, or refused with a cause. A strict one is refused unless that state is the newest.
+        """
+        call = wire.change("POST", self.path("/edits"), "application/x-ndjson", wire.write(edit), expected, key, strict)
         return wire.answer_of(await self.client.ask(call))
 
-    async def patch(self, patch: Any, expected: "int | None" = None, key: "str | None" = None) -> Answer:
+    async def patch(self, patch: Any, expected: "int | None" = None, key: "str | None" = None, strict: bool = False) -> Answer:
         """Sends a JSON Patch."""
-        call = wire.change("PATCH", self.path(), "application/json-patch+json", wire.write(patch), expected, key)
+        call = wire.change("PATCH", self.path(), "application/json-patch+json", wire.write(patch), expected, key, strict)
         return wire.answer_of(await self.client.ask(call))
 
     async def history(self, after: int = 0) -> "list[dict[str, Any]]":

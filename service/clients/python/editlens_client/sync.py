@@ -106,13 +106,16 @@ class Document:
         headers, _, tree = self.client._send(Call("GET", self.path()))
         return tree, wire.number_of(headers.get("ETag"))
 
-    def edit(self, edit: Any, expected: "int | None" = None, key: "str | None" = None) -> Answer:
-        """Sends an edit. Raises Refusal. `expected` is the number of the state that it is made for: if it is not the newest, nothing changes."""
-        return wire.answer_of(self.client.ask(wire.change("POST", self.path("/edits"), "application/x-ndjson", wire.write(edit), expected, key)))
+    def edit(self, edit: Any, expected: "int | None" = None, key: "str | None" = None, strict: bool = False) -> Answer:
+        """Sends an edit. Raises Refusal. `expected` is the number of the state that it is made for.
 
-    def patch(self, patch: Any, expected: "int | None" = None, key: "str | None" = None) -> Answer:
+        It is carried from there to the newest state, or refused with a cause. A strict one is refused unless that state is the newest.
+        """
+        return wire.answer_of(self.client.ask(wire.change("POST", self.path("/edits"), "application/x-ndjson", wire.write(edit), expected, key, strict)))
+
+    def patch(self, patch: Any, expected: "int | None" = None, key: "str | None" = None, strict: bool = False) -> Answer:
         """Sends a JSON Patch."""
-        return wire.answer_of(self.client.ask(wire.change("PATCH", self.path(), "application/json-patch+json", wire.write(patch), expected, key)))
+        return wire.answer_of(self.client.ask(wire.change("PATCH", self.path(), "application/json-patch+json", wire.write(patch), expected, key, strict)))
 
     def history(self, after: int = 0) -> "list[dict[str, Any]]":
         """Changes behind a number."""

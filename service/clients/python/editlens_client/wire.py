@@ -63,11 +63,13 @@ def path_of(kind: str, name: str, document: "str | None" = None, rest: str = "")
     return f"/{kind}s/{quote(name, safe='')}{place}{rest}"
 
 
-def change(method: str, path: str, kind: str, body: bytes, expected: "int | None", key: "str | None") -> Call:
-    """A request that changes something, with a key of its own."""
+def change(method: str, path: str, kind: str, body: bytes, expected: "int | None", key: "str | None", strict: bool = False) -> Call:
+    """A request that changes something, with a key of its own. A strict one is refused where another state than `expected` is the newest."""
     headers = {"Content-Type": kind, "Idempotency-Key": key or uuid.uuid4().hex}
     if expected is not None:
         headers["If-Match"] = f'"{expected}"'
+    if strict:
+        headers["Prefer"] = "handling=strict"
     return Call(method, path, headers, body)
 
 

@@ -401,7 +401,7 @@ class Page {
       return;
     }
     this.forget();
-    if (said.cause === "stale" || said.cause === "failed" || !said.cause) {
+    if (said.since || said.cause === "failed" || !said.cause) {
       await this.refresh();
       side.redraw();
       this.say({ ...said, typed: focus.typed });

@@ -25,23 +25,25 @@ function translated(name, word) {
 function entryLines(entry) {
   const said = element("p", { class: "said" }, entry.sentences.join("; ") || "nothing changed");
   if (entry.taken) return [element("p", { class: "said" }, `Taken back: ${entry.sentences.join("; ")}`)];
+  const begun = entry.begun ? [wordLine("begun before other changes, as", entry.begun)] : [];
   const words = entry.undo
     ? [[entry.side, entry.edit], ...othersOf(entry)].map(([name, word]) => wordLine(the(name).replace(/^the (?!hub)/, ""), word))
     : [wordLine(`sent to ${the(entry.side)}`, entry.edit), ...othersOf(entry).map(([name, word]) => translated(name, word))];
-  return [entry.undo ? element("p", { class: "said" }, "The last change was taken back.") : said, ...words];
+  return [entry.undo ? element("p", { class: "said" }, "The last change was taken back.") : said, ...begun, ...words];
 }
 
 /** The cause of a refusal, as lines. */
 export function refusalLines(said) {
   const place = said.place === null || said.place === undefined ? "" : ` at ${said.place || "the document"}`;
-  const head = said.cause === "stale" ? "not sent, since it is stale" : `refused: ${said.cause}${place}`;
+  const head = said.cause === "stale" ? "not done, since the documents changed" : `refused: ${said.cause}${place}`;
   const title = said.cause === "failed" || !said.cause ? "not done" : head;
   const sentence = said.sentence.replace(/\.?$/, ".");
   const lines = said.plain
     ? [element("strong", {}, said.plain), element("small", { title: sentence }, head)]
     : [element("strong", {}, title), element("span", {}, sentence)];
   if (said.allowed && !said.plain) lines.push(element("span", {}, "Allowed here: ", element("code", {}, said.allowed)));
-  if (said.since) lines.push(element("span", {}, "Since then: "), element("ul", {}, ...said.since.map((it) => element("li", {}, it))));
+  if (said.lost?.length) lines.push(element("span", {}, "Not made: "), element("ul", {}, ...said.lost.map((it) => element("li", {}, it))));
+  if (said.since?.length) lines.push(element("span", {}, "Since then: "), element("ul", {}, ...said.since.map((it) => element("li", {}, it))));
   if (said.typed && !said.plain) lines.push(element("span", {}, "Your text was: ", element("code", {}, said.typed)));
   return lines;
 }
