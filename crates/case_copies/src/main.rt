@@ -29,8 +29,16 @@ impl Commands for Copies {
         sink: &mut MemSink,
         disk: &mut MemDisk,
     ) -> u8 {
-        let word = if words.len() > 1 { words[1].as_str() } else { "" };
-        let other = if words.len() > 2 { words[2].as_str() } else { "" };
+        let word = if words.len() > 1 {
+            words[1].as_str()
+        } else {
+            ""
+        };
+        let other = if words.len() > 2 {
+            words[2].as_str()
+        } else {
+            ""
+        };
         let status = if word == "show" {
             show::<StoreSession, MemSink, MemDisk>(alloc, sink, disk)
         } else if word == "verify" {
