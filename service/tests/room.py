@@ -21,6 +21,7 @@ from .postgres import Postgres
 RIGHTS = {
     "all": [{"on": "*", "documents": "all", "may": ["read", "edit", "manage"]}],
     "left": [{"on": "pairs/*", "documents": ["left"], "may": ["read", "edit"]}],
+    "writer": [{"on": "pairs/*", "documents": ["left"], "may": ["edit"]}],
     "reader": [{"on": "pairs/*", "documents": ["left", "right"], "may": ["read"]}],
     "other": [{"on": "pairs/other-*", "documents": "all", "may": ["read", "edit", "manage"]}],
 }

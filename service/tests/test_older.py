@@ -233,12 +233,17 @@ def test_edits_on_their_way(room: Room) -> None:
 
 
 def test_rights_and_words(room: Room) -> None:
-    """Who may edit one side alone has edits carried over those of the other side, and sees no word of it."""
+    """Who may edit one side alone has edits carried over those of the other side, and sees no word of it; nor of its own where it may not read."""
     name = _made(room)
     room.client().pair(name, "right").edit(_todo([{"move": [1, 0]}]))
     answer = room.client(1, "left").pair(name, "left").edit(_plan([{"mod": [1, [{"stay": ["todo", [{"set": "x"}]]}]]}]), expected=0)
     assert answer.edits == {"left": _plan([{"mod": [0, [{"stay": ["todo", [{"set": "x"}]]}]]}])}, answer
     assert _refused(room.client(0, "reader").pair(name, "left").edit, [], expected=0)[0] == 403
+    writer, patch = room.client(0, "writer").pair(name, "left"), [{"op": "replace", "path": "/plan/1/todo", "value": "y"}]
+    call = change("PATCH", writer.path(), "application/json-patch+json", write(patch), 0, None)
+    assert writer.client.ask(call) == {"number": 3, "answers": [{"ok": True, "number": 3, "edits": {}, "carried": True}], "sent": None, "patches": {}}
+    call = change("PATCH", writer.path(), "application/json-patch+json", write([{**patch[0], "path": "/plan/7/todo"}]), 0, None)
+    assert "found" not in _refused(writer.edit, _plan([{"del": 9}]), expected=0)[2] and _refused(writer.client.ask, call)[0] == 422
 
 
 def test_many_clients_at_once(room: Room) -> None:

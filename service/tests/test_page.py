@@ -75,6 +75,32 @@ def test_two_windows_live(room: Room) -> None:
     assert room.client().pair(name, "left").read() == ({"hours": 1, "plan": [{"todo": "Paint the door"}]}, 3)
 
 
+def test_a_late_edit(room: Room) -> None:
+    """An edit that was begun before the other side moved its item comes to it. One whose item is gone is refused, with what it was."""
+    name = room.name()
+    room.client().make(name, PROGRAM, left={"hours": 1, "plan": [{"todo": "Paint"}, {"todo": "Roof"}]})
+    left, right = (room.client().pair(name, side) for side in ("left", "right"))
+    script = """window.page.send(window.page.sides.right, [{at: ["board", [{at: ["todo", [{mod: [1, [{set: arguments[0]}]]}]]}]]}], {base: 0})"""
+    try:
+        browser: Any = Browser()
+    except NoBrowser as why:
+        raise Skipped(str(why)) from None
+    with browser:
+        window = Window(browser, browser.window, f"{room.serve()[1].address}/pairs/{name}/desk/#token=all")
+        left.edit([{"at": ["plan", [{"move": [1, 0]}]]}])
+        window.shows(1, _control("right", "/board/todo/0"), "Roof")
+        browser.run(script, "Tiles")
+        window.shows(2, _control("right", "/board/todo/0"), "Tiles")
+        left.edit([{"at": ["plan", [{"move": [0, 1]}, {"del": 1}]]}])
+        window.shows(3, _control("right", "/board/todo/0"), "Paint")
+        browser.run(script, "Walls")
+        browser.until(lambda: "refused: gone" in window.says(), window.says, PATIENCE)
+        said = window.says()
+        assert 'right: board, todo, item 1: set to "Walls"' in said and "another edit has deleted or replaced it" in said, said
+        assert [it for it in browser.complaints() if " 412 " not in it] == []
+    assert right.read() == ({"board": {"done": [], "todo": ["Paint"]}, "color": ""}, 3)
+
+
 def _by_hand(window: Window, side: str, text: str) -> None:
     """Sends an edit that is written by hand."""
     window.browser.use(window.handle)

@@ -35,8 +35,8 @@ class NotTaken(Exception):
 
     `cause` is `base` where the state is not known, one of `rebase.Cause`, or one of docs/EDITS.md where the word does not act. `word` is the
     number, from 0, of the word among those that were given together. `edit` has these words one after another, and `at` is the number of its
-    first primitive that has no place, from 0. `rests_on` is the number, from 1, of an earlier edit of the same author that was not taken, without which
-    this one has no place. Of a patch, `operation` is the number of the operation, from 0.
+    first primitive that has no place, from 0. `rests_on` is the number, from 1, of an earlier edit of the same author that was not taken,
+    without which this one has no place. Of a patch, `operation` is the number of the operation, from 0.
     """
 
     operation: int | None = None
@@ -175,7 +175,8 @@ class OlderStates:
         if number > self.number:
             raise unknown_base(f"state {number}, for which this edit was made, is not there yet: the newest one is {self.number}")
         if number < self.first:
-            raise unknown_base(f"state {number}, for which this edit was made, is not known any more: edits are taken for states from {self.first} on")
+            known = f"edits are taken for states from {self.first} on"
+            raise unknown_base(f"state {number}, for which this edit was made, is not known any more: {known}")
 
 
 class OlderEdits:

@@ -148,7 +148,9 @@ async def patch(request: web.Request) -> web.Response:
     headers = {**etag(reply["number"]), **({"Idempotency-Replayed": "true"} if is_earlier else {})}
     answer = _answer(it, reply["answers"][0])
     shown = {name: ops for name, ops in reply["patches"].items() if it.who.may("read", it.kind, it.name, name)}
-    return said({"number": reply["number"], "answers": [answer], "sent": reply["sent"], "patches": shown}, 200, headers)
+    # What was made of a patch of an older file may name what is in the newest one.
+    sent = reply["sent"] if reply.get("is-own", True) or it.who.may("read", it.kind, it.name, str(it.document)) else None
+    return said({"number": reply["number"], "answers": [answer], "sent": sent, "patches": shown}, 200, headers)
 
 
 def _patched(it: About, kept: Kept, ops: Any, drops: bool, older: "OlderEdits | None") -> Made:
@@ -172,6 +174,7 @@ def _patched(it: About, kept: Kept, ops: Any, drops: bool, older: "OlderEdits | 
         raise NotCarried(**late_answer(why, kept.number), operation=made.parts[why.word].number) from None
     found = step_all(kept, [line_for(state, name, now.word)])
     found.reply["sent"] = read_json(write_file(made.patch)) if older is None else _patch_of(shapes[name], before[name], now.word)
+    found.reply["is-own"] = older is None
     found.reply["patches"] = {}
     if found.drafts:
         if now.word != made.word:
