@@ -1,6 +1,10 @@
 //! Files by forms, a row each: what is written of the document that a file is, or why it is none; and documents that no
 //! file shows.
 
+ghost use Rattle.std.specs.Prelude.{◌≡◌, true};
+ghost use Rattle.file_forms.specs.Fitting.{is_fit};
+ghost use Rattle.file_forms.specs.Forms.{file_form_tree};
+
 use doc_values::Doc;
 use file_forms::{FileForm, Literal};
 use file_trees::{read_file, write_file};
@@ -64,9 +68,26 @@ fn written_by(alloc: Global, form: &FileForm, bytes: &[u8]) -> Result<Vec<u8>, F
     let doc = read_tree(alloc, form, &tree);
     drop(tree);
     let doc = doc?;
-    let tree = write_tree(alloc, form, &doc);
+    let text = text_of(alloc, form, &doc);
     drop(doc);
-    let tree = tree?;
+    text
+}
+
+// The file of a document by a form, which has to be fit.
+fn text_of(alloc: Global, form: &FileForm, doc: &Doc) -> Result<Vec<u8>, Fail> {
+    match form.misfit(alloc)? {
+        None => text_by_fit(alloc, form, doc),
+        Some(misfit) => {
+            drop(misfit);
+            return Err("the form is not fit")?;
+        }
+    }
+}
+
+fn text_by_fit(alloc: Global, form: &FileForm, doc: &Doc) -> Result<Vec<u8>, Fail>
+    requires { is_fit (file_form_tree form.now) ≡ true }
+{
+    let tree = write_tree(alloc, form, doc)?;
     let text = write_file(alloc, &tree);
     drop(tree);
     Ok(text?)
