@@ -29,7 +29,7 @@ later_form : (others : Standing → Result Standing RecordFault) (r : Result Sta
 later_form others (Ok t) s u all h = all t refl h
 later_form others (Err fault) s u all h = cc
 
-same_form : (n : ℕ) (s u : Standing) (ps : List (List ℕ)) → after_payloads n s ps ≡ Ok u → s.form ≡ u.form
+pub same_form : (n : ℕ) (s u : Standing) (ps : List (List ℕ)) → after_payloads n s ps ≡ Ok u → s.form ≡ u.form
 same_form n s u [] h = let same : s ≡ u = cc in ap (λ (x : Standing). x.form) same
 same_form n s u (p ∷ ps) h =
     later_form (λ t. after_payloads (n + 1) t ps) (after_record n s (record_in p)) s u
