@@ -115,11 +115,18 @@ def taken():
 def faults():
     """The other disk fails, or the sink does: then the store from before is there as it was."""
     held = log(program(PLAIN), entry("left", SET))
+    for words in (["compact"], ["copy"], ["back", "1"]):
+        yield sink_fails(words, held)
+        yield sink_fails(words, held[:-1])
     for word in ("compact", "copy"):
-        for when in ("fails-at-once", "fails-later"):
-            yield step([word, when], 7, "", "", held)
-        for bytes_of_store, words in ((held, [word]), (held[:-1], [word]), (held, [word, "taken"])):
-            yield write_step(words, 6, b"", b"", stores=(bytes_of_store, bytes_of_store), devices={"sink_fails": [0]})
+        yield step([word, "fails-at-once"], 7, "", "", held)
+        yield step([word, "fails-later"], 7, "", "", held)
+        yield sink_fails([word, "taken"], held)
+
+
+def sink_fails(words, bytes_of_store):
+    """The first call of the sink fails."""
+    return write_step(words, 6, b"", b"", stores=(bytes_of_store, bytes_of_store), devices={"sink_fails": [0]})
 
 
 def files():

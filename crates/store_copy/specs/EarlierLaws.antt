@@ -1,7 +1,7 @@
 -- A store of a pair represented a state after each record, and goes back to it by its snapshot.
 -- Lemmas, which stand here since the laws of an `impl` cite them.
-use Rattle.std.proofs.Common.{◌≡◌, ℕ, zero, suc, ◌+◌, ◌<◌, List, [], ◌∷◌, ◌++◌, Option, Some, None, Result, Ok, Err, refl, sym, ap}
-use Rattle.std.proofs.Common.{subst, ◌∙◌, take, arith}
+use Rattle.std.proofs.Common.{◌≡◌, ℕ, zero, suc, ◌+◌, ◌<◌, List, [], ◌∷◌, ◌++◌, Option}
+use Rattle.std.proofs.Common.{Some, None, Result, Ok, Err, refl, sym, ap, subst, ◌∙◌, take, arith}
 use Rattle.lens_forms.specs.Forms.{FormTree}
 use Rattle.store_records.specs.RecordJson.{record_in}
 use Rattle.store_records.specs.StoredLens.{lens_and_version}

@@ -109,5 +109,5 @@ snapshot_begins ps t v h =
 pub snapshot_forgets : (ps : List (List ℕ)) (t : StoredState) (v : Option (List ℕ)) → stands_for ps ≡ Ok (t, v)
     → HasSnapshot t → changes_counted (pair_beginning ps ++ snapshot_text t ∷ []) ≡ 0
 snapshot_forgets ps t v h =
-    at_standing (λ x. HasSnapshot x → changes_counted (pair_beginning ps ++ snapshot_text x ∷ []) ≡ 0) ps t v (stands ps)
-    refl h (λ s e has. ap counted (compacted ps s e has))
+    at_standing (λ x. HasSnapshot x → changes_counted (pair_beginning ps ++ snapshot_text x ∷ []) ≡ 0) ps t v
+    (stands ps) refl h (λ s e has. ap counted (compacted ps s e has))

@@ -2,9 +2,10 @@
 //!
 //! [`compact`] makes a store of the state alone: what gives the lens, and one snapshot. [`copy`] makes one of the same
 //! records, and [`back`] one that goes back to the state after a record. They only read the store that is there.
-//! specs/Remakes.antt has what they promise, and specs/NewPayloads.antt which payloads the new store has. A session says
-//! by [`RemadeSession`] what a new store of it begins with, and by [`EarlierSession`] that it can go back; a store of a
-//! pair does.
+//! specs/Remakes.antt has what they promise, and specs/NewPayloads.antt which payloads the new store has.
+//!
+//! A session says by [`RemadeSession`] what a new store of it begins with, and by [`EarlierSession`] that it can go
+//! back. Stores of a pair have both.
 #![tactic(auto)]
 
 mod lines;
