@@ -1,4 +1,4 @@
--- The payloads of a store that is made anew, and the line that says so. Read it from the end: `IsPlanned`,
+-- The payloads of a store that is made anew, and the line that says so. Read it from the end: `IsPlanned`, `IsAllowed`,
 -- `IsTakenBack`, `IsCopied`, then `IsCompacted`.
 use Rattle.std.specs.Prelude.{◌≡◌, ℕ, ◌<◌, List, [], ◌∷◌, ◌++◌, length, take, codes, decimal, Option, None, Ok}
 use Rattle.store_run.specs.declared.session.StoredSession as OfSession
