@@ -1,4 +1,4 @@
-"""Writes rows of `compact` and `copy` for case_copies. Each step is worked out by hand, and its stores are put together from their payloads."""
+"""Writes rows of `compact`, `copy` and `back` for case_copies. Each step is worked out by hand, and its stores are put together from their payloads."""
 
 from ..steps import write_step
 from ..stores import MARK, entry, log, program
@@ -64,6 +64,26 @@ def book():
     yield copied(held)
 
 
+def gone_back(held, number, value, at=0):
+    """A store goes back to the state after a record, where both documents of PLAIN have this value."""
+    return step(["back", str(number)], 0, "", "back %d\n" % number, log(*held), log(*held, snapshot(value)), at)
+
+
+def backs():
+    """A store goes back to the state after each record, or after the last one, and its version stays."""
+    changes = entry("left", SET), entry("right", ADD)
+    for first in ((program(PLAIN),), (program(PLAIN, 1),), (program(PLAIN, 1), VERSION)):
+        held = (*first, *changes)
+        for number, value in ((1, 0), (len(first), 0), (len(first) + 1, 5), (len(first) + 2, 6), (9, 6)):
+            yield gone_back(held, number, value)
+    held = (program(PLAIN), *changes)
+    yield gone_back(held, 2, 5)
+    yield step(["show"], 0, "", STATE % (5, 5), log(*held, snapshot(5)), number=1)
+    yield step(["verify"], 0, "", "consistent 2\n", log(*held, snapshot(5)), number=2)
+    yield gone_back((*held, snapshot(5)), 3, 6, 3)
+    yield step(["back", "0"], 2, "", "", log(*held))
+
+
 def refused():
     """What is no store is refused for its reason, and nothing is made."""
     first, whole = entry("left", SET), log(program(PLAIN), entry("left", SET))
@@ -81,8 +101,8 @@ def refused():
         (log(program(PLAIN), first, VERSION), "bad-record 3"),
         (log(program(PLAIN), first, uneven), "not-consistent 3"),
     ):
-        for word in ("compact", "copy"):
-            yield step([word], 4, "", "store refused: %s\n" % reason, bytes_of_store)
+        for words in (["compact"], ["copy"], ["back", "1"], ["back", "9"]):
+            yield step(words, 4, "", "store refused: %s\n" % reason, bytes_of_store)
 
 
 def taken():
@@ -95,14 +115,21 @@ def taken():
 def faults():
     """The other disk fails, or the sink does: then the store from before is there as it was."""
     held = log(program(PLAIN), entry("left", SET))
+    for words in (["compact"], ["copy"], ["back", "1"]):
+        yield sink_fails(words, held)
+        yield sink_fails(words, held[:-1])
     for word in ("compact", "copy"):
-        for when in ("fails-at-once", "fails-later"):
-            yield step([word, when], 7, "", "", held)
-        for bytes_of_store, words in ((held, [word]), (held[:-1], [word]), (held, [word, "taken"])):
-            yield write_step(words, 6, b"", b"", stores=(bytes_of_store, bytes_of_store), devices={"sink_fails": [0]})
+        yield step([word, "fails-at-once"], 7, "", "", held)
+        yield step([word, "fails-later"], 7, "", "", held)
+        yield sink_fails([word, "taken"], held)
+
+
+def sink_fails(words, bytes_of_store):
+    """The first call of the sink fails."""
+    return write_step(words, 6, b"", b"", stores=(bytes_of_store, bytes_of_store), devices={"sink_fails": [0]})
 
 
 def files():
     """The file of cases."""
-    parts = (versions, states, book, refused, taken, faults)
+    parts = (versions, states, book, backs, refused, taken, faults)
     yield "case_copies/data/copies.cases", b"".join(row for part in parts for row in part())

@@ -9,7 +9,7 @@ use case_files::{Commands, run_files};
 use command_ends::Status;
 use lens_io::{MemDisk, MemSink, MemSource};
 use std::alloc::{AllocError, Global};
-use store_copy::{compact, copy};
+use store_copy::{back, compact, copy};
 use store_run::{show, verify};
 use store_session::StoreSession;
 use texts::Bytes;
@@ -18,7 +18,7 @@ fn main(rt: HostRuntime) -> anyhow::Result<()> {
     run_files::<Copies>(&rt)
 }
 
-// The commands of a file: `compact` and `copy`, and `show` and `verify` of the store that was made.
+// The commands of a file: `compact`, `copy` and `back N`, and `show` and `verify` of the store that was made.
 struct Copies;
 
 impl Commands for Copies {
@@ -65,6 +65,8 @@ fn remake(
         compact::<StoreSession, MemSink, MemDisk, MemDisk>(alloc, disk, &mut made, sink)
     } else if word == "copy" {
         copy::<StoreSession, MemSink, MemDisk, MemDisk>(alloc, disk, &mut made, sink)
+    } else if word == "back" {
+        go_back(alloc, other, disk, &mut made, sink)
     } else {
         Status::Usage
     };
@@ -72,6 +74,22 @@ fn remake(
         *disk = made;
     }
     status
+}
+
+// Goes back to the state after the record with the number of this text.
+fn go_back(
+    alloc: Global,
+    number: &str,
+    disk: &mut MemDisk,
+    made: &mut MemDisk,
+    sink: &mut MemSink,
+) -> Status {
+    match number.parse::<usize>() {
+        Ok(number) if number > 0 => {
+            back::<StoreSession, MemSink, MemDisk, MemDisk>(alloc, number, disk, made, sink)
+        }
+        _ => Status::Usage,
+    }
 }
 
 // An empty disk. By these words it has a byte, or its first call fails, or its fourth.

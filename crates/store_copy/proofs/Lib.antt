@@ -1,1 +1,2 @@
+pub mod NewPayloadsMade
 pub mod RemakeEndsHold

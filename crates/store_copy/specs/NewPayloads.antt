@@ -1,9 +1,10 @@
--- The payloads of a store that is made anew, and the line that says so. Read it from the end: `IsPlanned`, `IsCopied`,
--- then `IsCompacted`.
-use Rattle.std.specs.Prelude.{◌≡◌, ℕ, List, [], ◌∷◌, ◌++◌, length, codes, decimal, Option, None, Ok}
+-- The payloads of a store that is made anew, and the line that says so. Read it from the end: `IsPlanned`, `IsAllowed`,
+-- `IsTakenBack`, `IsCopied`, then `IsCompacted`.
+use Rattle.std.specs.Prelude.{◌≡◌, ℕ, ◌<◌, List, [], ◌∷◌, ◌++◌, length, take, codes, decimal, Option, None, Ok}
 use Rattle.store_run.specs.declared.session.StoredSession as OfSession
+use Rattle.store_copy.specs.Earlier.{EarlierStands, EarlierSnapshotStands}
 use Rattle.store_copy.specs.declared.new_payloads.Remaking.{Remaking}
-use Rattle.store_copy.specs.declared.new_payloads.Remaking.TheVariants.{Compact, Copy}
+use Rattle.store_copy.specs.declared.new_payloads.Remaking.TheVariants.{Compact, Copy, Back}
 
 -- `compacted N M`: how many records the store had, and how many the new one has
 abbrev pub compacted_line : ℕ → ℕ → List ℕ
@@ -12,6 +13,10 @@ compacted_line before after = codes "compacted " ++ decimal before ++ codes " " 
 -- `copied N`
 abbrev pub copied_line : ℕ → List ℕ
 copied_line count = codes "copied " ++ decimal count ++ codes "\n"
+
+-- `back N`
+abbrev pub back_line : ℕ → List ℕ
+back_line number = codes "back " ++ decimal number ++ codes "\n"
 
 -- A store has some payloads, which stand for the state t, with the version record if it is still to be stored.
 module _ {A : Type 0} (session : OfSession.Ghosts A) (beginning : List (List ℕ) → List (List ℕ)) where
@@ -33,9 +38,29 @@ module _ {A : Type 0} (session : OfSession.Ghosts A) where
     pub stand : session.stands_for payloads ≡ Ok (t, version)
     pub said : line ≡ copied_line (length before)
 
+  -- The new payloads are the same and one more, the snapshot of the state after the record with this number, or after
+  -- the last one. They stand for that state, at the version from before. The line is `back N`.
+  pub record IsTakenBack (number : ℕ) (before : List (List ℕ)) (t : session.State) (version : Option (List ℕ))
+      (payloads : List (List ℕ)) (line : List ℕ) : Type 0 where
+    pub earlier : session.State
+    pub due : Option (List ℕ)
+    pub stood : session.stands_for (take number before) ≡ Ok (earlier, due)
+    pub has : session.has_snapshot earlier
+    pub are : payloads ≡ before ++ session.snapshot_text earlier ∷ []
+    pub stand : session.stands_for payloads ≡ Ok (earlier, version)
+    pub said : line ≡ back_line number
+
+  -- what a command needs of a session beside the laws of all: only going back does, to a record that there is
+  abbrev pub IsAllowed : Remaking → Type 0
+  IsAllowed Compact = Unit {0}
+  IsAllowed Copy = Unit {0}
+  IsAllowed (Back number) = (0 < number) × EarlierStands session × EarlierSnapshotStands session
+
 -- what each command makes
 abbrev pub IsPlanned : {A : Type 0} → (session : OfSession.Ghosts A) → (List (List ℕ) → List (List ℕ)) → Remaking
     → List (List ℕ) → session.State → Option (List ℕ) → List (List ℕ) → List ℕ → Type 0
 IsPlanned session beginning Compact before t version payloads line =
     IsCompacted session beginning before t version payloads line
 IsPlanned session beginning Copy before t version payloads line = IsCopied session before t version payloads line
+IsPlanned session beginning (Back number) before t version payloads line =
+    IsTakenBack session number before t version payloads line

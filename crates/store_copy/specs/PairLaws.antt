@@ -29,7 +29,7 @@ later_form : (others : Standing → Result Standing RecordFault) (r : Result Sta
 later_form others (Ok t) s u all h = all t refl h
 later_form others (Err fault) s u all h = cc
 
-same_form : (n : ℕ) (s u : Standing) (ps : List (List ℕ)) → after_payloads n s ps ≡ Ok u → s.form ≡ u.form
+pub same_form : (n : ℕ) (s u : Standing) (ps : List (List ℕ)) → after_payloads n s ps ≡ Ok u → s.form ≡ u.form
 same_form n s u [] h = let same : s ≡ u = cc in ap (λ (x : Standing). x.form) same
 same_form n s u (p ∷ ps) h =
     later_form (λ t. after_payloads (n + 1) t ps) (after_record n s (record_in p)) s u
@@ -109,5 +109,5 @@ snapshot_begins ps t v h =
 pub snapshot_forgets : (ps : List (List ℕ)) (t : StoredState) (v : Option (List ℕ)) → stands_for ps ≡ Ok (t, v)
     → HasSnapshot t → changes_counted (pair_beginning ps ++ snapshot_text t ∷ []) ≡ 0
 snapshot_forgets ps t v h =
-    at_standing (λ x. HasSnapshot x → changes_counted (pair_beginning ps ++ snapshot_text x ∷ []) ≡ 0) ps t v (stands ps)
-    refl h (λ s e has. ap counted (compacted ps s e has))
+    at_standing (λ x. HasSnapshot x → changes_counted (pair_beginning ps ++ snapshot_text x ∷ []) ≡ 0) ps t v
+    (stands ps) refl h (λ s e has. ap counted (compacted ps s e has))

@@ -1,9 +1,11 @@
 //! The commands that make a store anew on another disk.
 //!
 //! [`compact`] makes a store of the state alone: what gives the lens, and one snapshot. [`copy`] makes one of the same
-//! records. Both only read the store that is there. specs/Remakes.antt has what they promise, and
-//! specs/NewPayloads.antt which payloads the new store has. A session says by [`RemadeSession`] what a new store of it
-//! begins with; a store of a pair does.
+//! records, and [`back`] one that goes back to the state after a record. They only read the store that is there.
+//! specs/Remakes.antt has what they promise, and specs/NewPayloads.antt which payloads the new store has.
+//!
+//! A session says by [`RemadeSession`] what a new store of it begins with, and by [`EarlierSession`] that it can go
+//! back. Stores of a pair have both.
 #![tactic(auto)]
 
 mod lines;
@@ -12,5 +14,5 @@ mod pair_stores;
 mod remaking;
 mod session;
 
-pub use remaking::{compact, copy};
-pub use session::RemadeSession;
+pub use remaking::{back, compact, copy};
+pub use session::{EarlierSession, RemadeSession};

@@ -1,17 +1,19 @@
 //! The payloads of a store that is made anew, and the line that says so.
-ghost use Rattle.std.specs.Prelude.{◌≡◌, List, ℕ, length, Ok, Some, IfOk, MatchResult, IsErrOf};
+ghost use Rattle.std.specs.Prelude.{◌≡◌, ◌∷◌, ◌++◌, [], List, ℕ, take, Ok, Some, IfOk, MatchResult};
 ghost use Rattle.std.specs.declared.option.Option.{Option};
-ghost use Rattle.store_run.specs.Opening.{FailsToOpen, IsRefusedFor, fault_of_payloads};
+ghost use Rattle.store_run.specs.Making.{IsMakingFault};
 ghost use Rattle.store_run.specs.Refusals.{refusal_of_payloads};
 ghost use Rattle.store_run.specs.declared.refusals.StoreRefusal.{StoreRefusal};
-ghost use Rattle.store_copy.specs.NewPayloads.{IsCompacted, IsPlanned, copied_line};
+ghost use Rattle.store_copy.specs.NewPayloads.{IsAllowed, IsCompacted, IsCopied, IsPlanned, IsTakenBack};
+ghost use Rattle.store_copy.specs.Unmade.{unmade_by};
 
-use crate::lines::{compacted_line, copied_line};
+use crate::lines::{back_line, compacted_line, copied_line};
 use crate::session::RemadeSession;
 use lens_io::Payloads;
 use std::alloc::{AllocError, Global};
 use store_new::StoreText;
-use store_run::{OpenFault, ReopenFault, StoreRefusal, StoredSession};
+use store_run::{MakingFault, ReopenFault, StoreRefusal, StoredSession};
+use texts::Bytes;
 
 /// What a command makes of a store.
 #[derive(Clone, Copy, Debug, PartialEq, Eq)]
@@ -20,6 +22,8 @@ pub(crate) enum Remaking {
     Compact,
     /// A store of the same records.
     Copy,
+    /// A store of the same records that goes back to the state after one of them.
+    Back { number: usize },
 }
 
 /// The payloads of the new store, and the line that says so.
@@ -30,54 +34,56 @@ pub(crate) fn new_payloads<A: RemadeSession + Drop>(
     alloc: Global,
     way: Remaking,
     payloads: Payloads,
-) -> Result<StoreText, OpenFault>
+) -> Result<StoreText, MakingFault>
     ensures made { (t : A.State) (version : Option (List ℕ)) → A.stands_for payloads ≡ Ok (t, version)
+        → IsAllowed A.StoredSession way
         → MatchResult result
         (λ text. IsPlanned A.StoredSession A.beginning way payloads t version
         text.payloads text.lines.items)
-        FailsToOpen }
+        (λ fault. fault ≡ MakingFault.NoMemory) }
     ensures refused { (reason : StoreRefusal)
         → refusal_of_payloads (A.stands_for payloads) ≡ Some reason
-        → MatchResult result (λ _. ⊥) (IsRefusedFor reason) }
-    ensures no_disk { IsErrOf result OpenFault.DiskFault → ⊥ }
+        → MatchResult result (λ _. ⊥) (IsMakingFault (Some reason)) }
 {
     match A::reopen(alloc, &payloads) {
-        Ok(opened) => match text_of(alloc, way, &opened.session, payloads) {
-            Ok(text) => Ok(text),
-            Err(AllocError) => Err(OpenFault::NoMemory),
-        },
-        Err(fault) => Err(unopened(fault)),
+        Ok(opened) => text_of(alloc, way, &opened.session, payloads),
+        Err(fault) => Err(unmade(fault)),
     }
 }
 
 // What payloads that stand for no session mean for the store.
-fn unopened(fault: ReopenFault) -> OpenFault
-    ensures { result ≡ fault_of_payloads fault }
+fn unmade(fault: ReopenFault) -> MakingFault
+    ensures { result ≡ unmade_by fault }
 {
     match fault {
-        ReopenFault::BadRecord { number } => OpenFault::Refused(StoreRefusal::BadRecord { number }),
-        ReopenFault::NotConsistent { number } => OpenFault::Refused(StoreRefusal::NotConsistent {
+        ReopenFault::BadRecord { number } => MakingFault::Refused(StoreRefusal::BadRecord {
             number,
         }),
-        ReopenFault::NoMemory => OpenFault::NoMemory,
+        ReopenFault::NotConsistent { number } => MakingFault::Refused(StoreRefusal::NotConsistent {
+            number,
+        }),
+        ReopenFault::NoMemory => MakingFault::NoMemory,
     }
 }
 
 // The same of payloads that stand for the state of this session.
-fn text_of<A: RemadeSession>(
+fn text_of<A: RemadeSession + Drop>(
     alloc: Global,
     way: Remaking,
     session: &A,
     payloads: Payloads,
-) -> Result<StoreText, AllocError>
-    ensures { IfOk result (λ text. (version : Option (List ℕ))
-        → A.stands_for payloads ≡ Ok (A.state session.now, version)
-        → IsPlanned A.StoredSession A.beginning way payloads (A.state session.now) version
-        text.payloads text.lines.items) }
+) -> Result<StoreText, MakingFault>
+    ensures { (version : Option (List ℕ))
+        → A.stands_for payloads ≡ Ok (A.state session.now, version) → IsAllowed A.StoredSession way
+        → MatchResult result
+        (λ text. IsPlanned A.StoredSession A.beginning way payloads (A.state session.now) version
+        text.payloads text.lines.items)
+        (λ fault. fault ≡ MakingFault.NoMemory) }
 {
     match way {
         Remaking::Compact => compacted(alloc, session, &payloads),
-        Remaking::Copy => copied(alloc, payloads),
+        Remaking::Copy => copied::<A>(alloc, payloads),
+        Remaking::Back { number } => taken_back::<A>(alloc, number, payloads),
     }
 }
 
@@ -86,14 +92,14 @@ fn compacted<A: RemadeSession>(
     alloc: Global,
     session: &A,
     payloads: &Payloads,
-) -> Result<StoreText, AllocError>
-    ensures { IfOk result (λ text. (version : Option (List ℕ))
-        → A.stands_for payloads.now ≡ Ok (A.state session.now, version)
-        → IsCompacted A.StoredSession A.beginning payloads.now (A.state session.now) version
-        text.payloads text.lines.items) }
+) -> Result<StoreText, MakingFault>
+    ensures { (version : Option (List ℕ))
+        → A.stands_for payloads.now ≡ Ok (A.state session.now, version) → MatchResult result
+        (λ text. IsCompacted A.StoredSession A.beginning payloads.now (A.state session.now) version
+        text.payloads text.lines.items)
+        (λ fault. fault ≡ MakingFault.NoMemory) }
 {
-    let mut made = A::beginning(alloc, payloads)?;
-    made.push(session.snapshot(alloc)?)?;
+    let made = with_one_more(A::beginning(alloc, payloads)?, session.snapshot(alloc)?)?;
     let lines = compacted_line(alloc, payloads.as_slice().len(), made.len())?;
     Ok(StoreText {
         payloads: Payloads::from_vec(made),
@@ -101,11 +107,83 @@ fn compacted<A: RemadeSession>(
     })
 }
 
+// These payloads, and one behind them.
+fn with_one_more(payloads: Vec<Bytes>, payload: Bytes) -> Result<Vec<Bytes>, AllocError>
+    ensures { IfOk result (λ made. made.items ≡ payloads.items ++ payload ∷ []) }
+{
+    let mut made = payloads;
+    made.push(payload)?;
+    Ok(made)
+}
+
 // A store of the same records.
-fn copied(alloc: Global, payloads: Payloads) -> Result<StoreText, AllocError>
-    ensures { IfOk result (λ text. (text.payloads ≡ payloads)
-        × (text.lines.items ≡ copied_line (length payloads))) }
+fn copied<A: RemadeSession>(alloc: Global, payloads: Payloads) -> Result<StoreText, MakingFault>
+    ensures { (t : A.State) (version : Option (List ℕ)) → A.stands_for payloads ≡ Ok (t, version)
+        → MatchResult result
+        (λ text. IsCopied A.StoredSession payloads t version text.payloads text.lines.items)
+        (λ fault. fault ≡ MakingFault.NoMemory) }
 {
     let lines = copied_line(alloc, payloads.as_slice().len())?;
     Ok(StoreText { payloads, lines })
+}
+
+// A store of the same records that goes back to the state after this one.
+fn taken_back<A: RemadeSession + Drop>(
+    alloc: Global,
+    number: usize,
+    payloads: Payloads,
+) -> Result<StoreText, MakingFault>
+    ensures { (t : A.State) (version : Option (List ℕ)) → A.stands_for payloads ≡ Ok (t, version)
+        → IsAllowed A.StoredSession (Remaking.Back number)
+        → MatchResult result
+        (λ text. IsTakenBack A.StoredSession number payloads t version text.payloads text.lines.items)
+        (λ fault. fault ≡ MakingFault.NoMemory) }
+{
+    let front = first_payloads(alloc, number, &payloads)?;
+    match A::reopen(alloc, &front) {
+        Ok(opened) => with_snapshot(alloc, number, &opened.session, payloads),
+        Err(fault) => Err(unmade(fault)),
+    }
+}
+
+// The first payloads, as many as the number says, or all.
+fn first_payloads(alloc: Global, number: usize, payloads: &Payloads) -> Result<Payloads, AllocError>
+    ensures { IfOk result (λ front. front ≡ take number payloads.now) }
+{
+    let records = payloads.as_slice();
+    let count = number.min(records.len());
+    let mut front = Vec::new(alloc);
+    for next in 0..count {
+        front.push(same_bytes(alloc, records[next].as_slice())?)?;
+    }
+    Ok(Payloads::from_vec(front))
+}
+
+/// The same bytes, in a value of their own. The only error is running out of memory.
+pub(crate) fn same_bytes(alloc: Global, bytes: &[u8]) -> Result<Bytes, AllocError>
+    ensures { IfOk result (λ same. same ≡ bytes.now) }
+{
+    Ok(Bytes::from_vec(bytes.to_vec(alloc)?))
+}
+
+// The payloads, and the snapshot of the state of a session that the first of them stand for.
+fn with_snapshot<A: RemadeSession>(
+    alloc: Global,
+    number: usize,
+    session: &A,
+    payloads: Payloads,
+) -> Result<StoreText, MakingFault>
+    ensures { (t : A.State) (version due : Option (List ℕ)) → A.stands_for payloads ≡ Ok (t, version)
+        → A.stands_for (take number payloads) ≡ Ok (A.state session.now, due)
+        → IsAllowed A.StoredSession (Remaking.Back number)
+        → MatchResult result
+        (λ text. IsTakenBack A.StoredSession number payloads t version text.payloads text.lines.items)
+        (λ fault. fault ≡ MakingFault.NoMemory) }
+{
+    let made = with_one_more(payloads.into_vec(), session.snapshot(alloc)?)?;
+    let lines = back_line(alloc, number)?;
+    Ok(StoreText {
+        payloads: Payloads::from_vec(made),
+        lines,
+    })
 }

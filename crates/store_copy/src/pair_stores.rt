@@ -4,7 +4,8 @@ ghost use Rattle.store_records.specs.StoredLens.{stored_lens};
 ghost use Rattle.store_session.specs.StoredStates.{version_for};
 ghost use Rattle.store_copy.specs.PairBeginnings.{pair_beginning, version_due};
 
-use crate::session::RemadeSession;
+use crate::new_payloads::same_bytes;
+use crate::session::{EarlierSession, RemadeSession};
 use lens_io::Payloads;
 use std::alloc::{AllocError, Global};
 use store_records::{RecordFault, stored_lens, version_payload};
@@ -29,6 +30,14 @@ impl RemadeSession for StoreSession {
     }
 }
 
+impl EarlierSession for StoreSession {
+    ghost use Rattle.store_copy.specs.EarlierLaws as laws;
+
+    ghost earlier_stands = { laws.earlier_stands };
+
+    ghost earlier_snapshot_stands = { laws.earlier_snapshot_stands };
+}
+
 // The first payload, and the version record if that payload says version 1.
 fn first_records(alloc: Global, payloads: &Payloads) -> Result<Vec<Bytes>, AllocError>
     ensures { IfOk result (λ begun. begun.items ≡ pair_beginning payloads.now) }
@@ -51,12 +60,6 @@ fn first_payload(alloc: Global, payloads: &Payloads) -> Result<Vec<Bytes>, Alloc
         first.push(same_bytes(alloc, records[0].as_slice())?)?;
     }
     Ok(first)
-}
-
-fn same_bytes(alloc: Global, bytes: &[u8]) -> Result<Bytes, AllocError>
-    ensures { IfOk result (λ same. same ≡ bytes.now) }
-{
-    Ok(Bytes::from_vec(bytes.to_vec(alloc)?))
 }
 
 // The version record, if the first record says version 1.

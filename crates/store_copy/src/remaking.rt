@@ -1,22 +1,24 @@
-//! The commands `compact` and `copy`, from their first call of a disk on.
+//! The commands `compact`, `copy` and `back`, from their first call of a disk on.
 ghost use Rattle.command_ends.specs.Statuses.{IsStatusAmong, quiet_statuses};
-ghost use Rattle.std.specs.Prelude.{◌≡◌, ◌⊎◌, ◌≤◌, List, ℕ, length, IfSome, IsErrOf, IsNone, MatchResult};
+ghost use Rattle.std.specs.Prelude.{◌≡◌, ◌⊎◌, ◌<◌, List, ℕ, length, Ok, Err, IfSome, IsErrOf, IsNone, MatchResult};
+ghost use Rattle.store_run.specs.declared.undo_session.MakingFault.{MakingFault};
 ghost use Rattle.lens_io.specs.Calls.{SinkFailed, DiskFailed};
 ghost use Rattle.store_run.specs.Opening.{FailsToOpen, IsRefusedFor};
 ghost use Rattle.store_run.specs.Refusals.{IsOpening};
 ghost use Rattle.store_run.specs.Stores.{Store, RefusedStore};
 ghost use Rattle.store_new.specs.NewRooms.{PlanHasNoRoom};
-ghost use Rattle.store_copy.specs.NewPayloads.{IsCompacted, IsCopied, IsPlanned};
+ghost use Rattle.store_copy.specs.NewPayloads.{IsAllowed, IsCompacted, IsCopied, IsPlanned, IsTakenBack};
 ghost use Rattle.store_copy.specs.RemakeEnds.{EndsRemade, EndsUnmade};
 ghost use Rattle.store_copy.specs.Remakes.{Remakes};
+ghost use Rattle.store_copy.specs.Unmade.{unopened_by};
 
 use crate::new_payloads::{Remaking, new_payloads};
-use crate::session::RemadeSession;
+use crate::session::{EarlierSession, RemadeSession};
 use command_ends::Status;
 use lens_io::{Disk, Sink};
 use std::alloc::Global;
 use store_new::{LOG_EXISTS, StoreText, give_line, make_store};
-use store_run::{OpenFault, StoredSession, read_store, refuse_store};
+use store_run::{MakingFault, OpenFault, StoredSession, read_store, refuse_store};
 
 /// Reads a store, and makes a store of its state alone on another disk, which has to be empty.
 ///
@@ -66,6 +68,34 @@ pub fn copy<A: RemadeSession + Drop, K: Sink, D: Disk, E: Disk>(
     remake::<A, K, D, E>(alloc, Remaking::Copy, from, to, sink)
 }
 
+/// Reads a store, and makes a store that goes back on another disk, which has to be empty: the same records, and behind
+/// them a snapshot of the state after the record with this number. If there are fewer records, it is that of the last
+/// one.
+///
+/// - `remakes`: after `Done` the new store has the same payloads and the snapshot, and represents the earlier state. So
+///   does each image of it that a crash may leave. The line `back N` was written. Nothing is written to the disk of the
+///   store, and no crash leaves anything new on it.
+/// - `statuses`: it ends by one of five statuses, whatever the disks hold. `sink_fault`, `disk_fault`: these come only
+///   if that device failed.
+pub fn back<A: EarlierSession + Drop, K: Sink, D: Disk, E: Disk>(
+    alloc: Global,
+    number: usize,
+    from: &mut D,
+    to: &mut E,
+    sink: &mut K,
+) -> Status
+    requires { 0 < number }
+    ensures remakes { Remakes K.Sink D.Disk E.Disk (sink.old, from.old, to.old)
+        (sink.new, from.new, to.new) result
+        A.StoredSession (IsTakenBack A.StoredSession number) }
+    ensures statuses { IsStatusAmong quiet_statuses result }
+    ensures sink_fault { result ≡ Status.SinkFault → SinkFailed K.Sink sink.old sink.new }
+    ensures disk_fault { result ≡ Status.DiskFault
+        → DiskFailed D.Disk from.old from.new ⊎ DiskFailed E.Disk to.old to.new }
+{
+    remake::<A, K, D, E>(alloc, Remaking::Back { number }, from, to, sink)
+}
+
 // Reads a store, and makes another one of it. The other disk is tested first.
 fn remake<A: RemadeSession + Drop, K: Sink, D: Disk, E: Disk>(
     alloc: Global,
@@ -74,8 +104,8 @@ fn remake<A: RemadeSession + Drop, K: Sink, D: Disk, E: Disk>(
     to: &mut E,
     sink: &mut K,
 ) -> Status
-    ensures remakes { Remakes K.Sink D.Disk E.Disk (sink.old, from.old, to.old)
-        (sink.new, from.new, to.new) result
+    ensures remakes { IsAllowed A.StoredSession way
+        → Remakes K.Sink D.Disk E.Disk (sink.old, from.old, to.old) (sink.new, from.new, to.new) result
         A.StoredSession (IsPlanned A.StoredSession A.beginning way) }
     ensures statuses { IsStatusAmong quiet_statuses result }
     ensures sink_fault { result ≡ Status.SinkFault → SinkFailed K.Sink sink.old sink.new }
@@ -98,11 +128,12 @@ fn remake_empty<A: RemadeSession + Drop, K: Sink, D: Disk, E: Disk>(
     sink: &mut K,
 ) -> Status
     requires empty { IfSome (E.content to.old) (λ bytes. length bytes ≡ 0) }
-    ensures ends { (store : Store D.Disk A.StoredSession from.old)
+    ensures ends { IsAllowed A.StoredSession way → (store : Store D.Disk A.StoredSession from.old)
         → EndsRemade K.Sink D.Disk E.Disk (sink.old, from.old, to.old)
         (sink.new, from.new, to.new) result
         (IsPlanned A.StoredSession A.beginning way store.payloads store.state store.version) }
-    ensures room { (store : Store D.Disk A.StoredSession from.old) → result ≡ Status.DiskFault
+    ensures room { IsAllowed A.StoredSession way → (store : Store D.Disk A.StoredSession from.old)
+        → result ≡ Status.DiskFault
         → IsNone (D.room from.old) ⊎ IfSome (E.room to.old) (PlanHasNoRoom
         (IsPlanned A.StoredSession A.beginning way store.payloads store.state store.version)) }
     ensures refused { (other : RefusedStore D.Disk A.StoredSession from.old)
@@ -126,7 +157,8 @@ fn read_text<A: RemadeSession + Drop, D: Disk>(
     way: Remaking,
     disk: &mut D,
 ) -> Result<StoreText, OpenFault>
-    ensures made { (store : Store D.Disk A.StoredSession disk.old) → MatchResult result
+    ensures made { IsAllowed A.StoredSession way
+        → (store : Store D.Disk A.StoredSession disk.old) → MatchResult result
         (λ text. IsPlanned A.StoredSession A.beginning way store.payloads store.state store.version
         text.payloads text.lines.items)
         FailsToOpen }
@@ -137,7 +169,20 @@ fn read_text<A: RemadeSession + Drop, D: Disk>(
     ensures sure { IsErrOf result OpenFault.DiskFault → IsNone (D.room disk.old) }
 {
     match read_store(alloc, disk) {
-        Ok(read) => new_payloads::<A>(alloc, way, read.payloads),
+        Ok(read) => opened_text(new_payloads::<A>(alloc, way, read.payloads)),
         Err(fault) => Err(fault),
+    }
+}
+
+// What was made of payloads, or what its fault means for the store.
+fn opened_text(made: Result<StoreText, MakingFault>) -> Result<StoreText, OpenFault>
+    ensures { MatchResult result
+        (λ text. made ≡ Ok text)
+        (λ fault. (cause : MakingFault) × (made ≡ Err cause) × (fault ≡ unopened_by cause)) }
+{
+    match made {
+        Ok(text) => Ok(text),
+        Err(MakingFault::Refused(refusal)) => Err(OpenFault::Refused(refusal)),
+        Err(MakingFault::NoMemory) => Err(OpenFault::NoMemory),
     }
 }

@@ -1,6 +1,7 @@
 //! What a store that is made anew needs of its session.
 ghost use Rattle.std.specs.Prelude.{◌≡◌, ◌∷◌, ◌++◌, [], List, ℕ, Ok, None, IfOk};
 ghost use Rattle.std.specs.declared.option.Option.{Option};
+ghost use Rattle.store_copy.specs.Earlier.{EarlierStands, EarlierSnapshotStands};
 
 use lens_io::Payloads;
 use std::alloc::{AllocError, Global};
@@ -25,4 +26,13 @@ pub trait RemadeSession: StoredSession {
     ghost snapshot_forgets: { (ps : List (List ℕ)) (t : Self.State) (v : Option (List ℕ))
         → Self.stands_for ps ≡ Ok (t, v) → Self.has_snapshot t
         → Self.count_of (beginning ps ++ Self.snapshot_text t ∷ []) ≡ 0 };
+}
+
+/// A stored session whose store can be made anew so that it goes back to the state after one of its records.
+pub trait EarlierSession: RemadeSession {
+    /// Payloads that stand for a state did so after each record.
+    ghost earlier_stands: { EarlierStands Self.StoredSession };
+
+    /// The snapshot of the state after a record stands for that state behind all payloads.
+    ghost earlier_snapshot_stands: { EarlierSnapshotStands Self.StoredSession };
 }

@@ -29,11 +29,12 @@ returns-in-Ok-eq0-clause-remakes g c =
     let status = c.remake_empty.result in
     let r = c.remake_empty.ensures in
     let u = unwritten_by to e e1 c.len.ensures.content c.len.ensures.images c.len.ensures.unwritten in
+    λ allowed.
     record {
       of_store = λ store.
           store_remade sink from to k k' d d' status e e' (IsPlanned session beginning c.args.way store.payloads store.state store.version)
-          (remade_behind sink from to k k' d d' status e e' e1 u c.len.ensures.room (IsPlanned session beginning c.args.way store.payloads store.state store.version) (r.ends store))
-          (λ is. elim (r.room store is) [
+          (remade_behind sink from to k k' d d' status e e' e1 u c.len.ensures.room (IsPlanned session beginning c.args.way store.payloads store.state store.version) (r.ends allowed store))
+          (λ is. elim (r.room allowed store is) [
             | inl x ↦ inl x
             | inr x ↦ inr (subst (λ (o : Option ℕ). IfSome o (PlanHasNoRoom (IsPlanned session beginning c.args.way store.payloads store.state store.version))) c.len.ensures.room x)
           ])
@@ -73,6 +74,7 @@ returns-in-Ok-clause-remakes g c =
     let some = some_bytes (to.content e) c.in-Ok.field-0 (λ z. omega (arith, z, c.in-Ok.field-0-test)) c.in-Ok.ensures.count in
     let taken = finds_other sink to k k' e e1 status some u given in
     let opening = opening_none from g.met.D.Disk.only_now d in
+    λ allowed.
     record {
       of_store = λ store.
           store_remade sink from to k k' d d status e e1 (IsPlanned session g.A.RemadeSession.beginning c.args.way store.payloads store.state store.version) (inl taken)
@@ -107,6 +109,7 @@ returns-in-Err-clause-remakes g c =
     let u = unwritten_by to e e1 c.len.ensures.content c.len.ensures.images c.len.ensures.unwritten in
     let fails = failed_first sink from to k d e e1 u c.in-Err.ensures.sure in
     let opening = opening_none from g.met.D.Disk.only_now d in
+    λ allowed.
     record {
       of_store = λ store.
           store_remade sink from to k k d d DiskFault e e1 (IsPlanned session g.A.RemadeSession.beginning c.args.way store.payloads store.state store.version) (inr (inl fails))

@@ -11,17 +11,17 @@ use Rattle.store_copy.proofs.remaking.remake_empty.Goals as goal
 pub returns-in-Ok-clause-ends : goal.returns-in-Ok-clause-ends
 returns-in-Ok-clause-ends g c =
     let text = c.in-Ok.text in
-    λ store.
+    λ allowed store.
     remade g.K.Sink g.D.Disk g.E.Disk c.args.sink.now c.make_store.new.sink c.args.from.now c.read_text.new.disk c.make_store.result c.args.to.now c.make_store.new.disk
-    (IsPlanned g.A.StoredSession g.A.RemadeSession.beginning c.args.way store.payloads store.state store.version) text.payloads text.lines.items (c.in-Ok.ensures.made store) c.requires.empty
+    (IsPlanned g.A.StoredSession g.A.RemadeSession.beginning c.args.way store.payloads store.state store.version) text.payloads text.lines.items (c.in-Ok.ensures.made allowed store) c.requires.empty
     (rw c.deref.ensures.value at c.make_store.ensures.ends)
 
 pub returns-in-Ok-clause-room : goal.returns-in-Ok-clause-room
 returns-in-Ok-clause-room g c =
     let text = c.in-Ok.text in
-    λ store is.
+    λ allowed store is.
     inr (no_room_for_plan (g.E.Disk.room c.args.to.now) (IsPlanned g.A.StoredSession g.A.RemadeSession.beginning c.args.way store.payloads store.state store.version) text.payloads text.lines.items
-    (c.in-Ok.ensures.made store) (c.make_store.ensures.room is))
+    (c.in-Ok.ensures.made allowed store) (c.make_store.ensures.room is))
 
 pub returns-in-Ok-clause-refused : goal.returns-in-Ok-clause-refused
 returns-in-Ok-clause-refused g c = λ other. absurd (c.in-Ok.ensures.refused other)
@@ -49,12 +49,12 @@ returns-in-Err-clause-ends g c =
     let d = c.args.from.now in
     let d' = c.read_text.new.disk in
     let status = c.refuse_store.result in
-    λ store.
+    λ allowed store.
     inr (inl (fails_before sink from g.E.Disk k k' d d' status c.args.to.now
-    (fails_to_open sink from k k' d d' status c.in-Err.fault (c.in-Err.ensures.made store) (λ e. c.in-Err.ensures.sure (ap (λ (x : OpenFault). Err x) e)) c.refuse_store.ensures.ends)))
+    (fails_to_open sink from k k' d d' status c.in-Err.fault (c.in-Err.ensures.made allowed store) (λ e. c.in-Err.ensures.sure (ap (λ (x : OpenFault). Err x) e)) c.refuse_store.ensures.ends)))
 
 pub returns-in-Err-clause-room : goal.returns-in-Err-clause-room
-returns-in-Err-clause-room g c = λ store is. inl (c.in-Err.ensures.sure (ap (λ (x : OpenFault). Err x) (c.refuse_store.ensures.disk_fault is)))
+returns-in-Err-clause-room g c = λ allowed store is. inl (c.in-Err.ensures.sure (ap (λ (x : OpenFault). Err x) (c.refuse_store.ensures.disk_fault is)))
 
 pub returns-in-Err-clause-refused : goal.returns-in-Err-clause-refused
 returns-in-Err-clause-refused g c =

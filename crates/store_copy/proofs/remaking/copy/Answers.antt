@@ -1,0 +1,4 @@
+use Rattle.store_copy.proofs.remaking.copy.Goals as goal
+
+pub returns-clause-remakes : goal.returns-clause-remakes
+returns-clause-remakes g c = c.remake.ensures.remakes tt
