@@ -5,7 +5,8 @@ ghost use Rattle.json.specs.Json.{Json};
 ghost use Rattle.file_trees.specs.FileTrees.{file_tree, members_view};
 ghost use Rattle.file_patches.specs.Equality.{named};
 ghost use Rattle.file_patches.specs.Operations.{operation_tree, patch_view};
-ghost use Rattle.file_patches.specs.Reading.{text_in, kind_in, pointer_in, from_in, value_in, operation_with, operation_of};
+ghost use Rattle.file_patches.specs.Reading.{text_in, kind_in, pointer_in, from_in, value_in, operation_with};
+ghost use Rattle.file_patches.specs.Reading.{operation_of};
 ghost use Rattle.file_patches.specs.Reading.{patch_of};
 ghost use Rattle.file_patches.specs.Results.{on_ok, Gives};
 
