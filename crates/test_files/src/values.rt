@@ -1,6 +1,10 @@
 //! Files by forms, a row each: what is written of the document that a file is, or why it is none; and documents that no
 //! file shows.
 
+ghost use Rattle.std.specs.Prelude.{◌≡◌, true, OnOk};
+ghost use Rattle.file_forms.specs.Forms.{file_form_tree};
+ghost use Rattle.file_forms.specs.Fitting.{is_fit};
+
 use doc_values::Doc;
 use file_forms::{FileForm, Literal};
 use file_trees::{read_file, write_file};
@@ -60,6 +64,7 @@ fn written(alloc: Global, form: FileForm, bytes: &[u8]) -> Result<Vec<u8>, Fail>
 }
 
 fn written_by(alloc: Global, form: &FileForm, bytes: &[u8]) -> Result<Vec<u8>, Fail> {
+    must_be_fit(alloc, form)?;
     let tree = read_file(alloc, bytes)?;
     let doc = read_tree(alloc, form, &tree);
     drop(tree);
@@ -70,6 +75,19 @@ fn written_by(alloc: Global, form: &FileForm, bytes: &[u8]) -> Result<Vec<u8>, F
     let text = write_file(alloc, &tree);
     drop(tree);
     Ok(text?)
+}
+
+// The form is fit, so that what is written by it can be written as a file. It fails if it is not.
+fn must_be_fit(alloc: Global, form: &FileForm) -> Result<(), Fail>
+    ensures { OnOk result (is_fit (file_form_tree form.now) ≡ true) }
+{
+    match form.misfit(alloc)? {
+        Some(misfit) => {
+            drop(misfit);
+            return Err("the form is not fit")?;
+        }
+        None => Ok(()),
+    }
 }
 
 // Where a file is not as its form has it: names and places, each with a slash before it.
