@@ -1,0 +1,11 @@
+pub mod Results
+pub mod Pointers
+pub mod Numbers
+pub mod NumberViews
+pub mod Equality
+pub mod Counts
+pub mod Places
+pub mod Changes
+pub mod Operations
+pub mod Patching
+pub mod Reading
