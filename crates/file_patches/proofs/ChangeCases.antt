@@ -1,5 +1,5 @@
 -- What a change does, by how many parts the place has.
-use Rattle.std.proofs.Common.{◌≡◌, ℕ, zero, suc, ◌<◌, List, [], ◌∷◌, drop, length, get_or, Some, None, Ok, refl, sym, ap, arith}
+use Rattle.std.proofs.Common.{◌≡◌, ℕ, ◌<◌, List, [], ◌∷◌, drop, length, get_or, Some, None, Ok, refl, sym, ap, arith}
 use Rattle.json.specs.Json.{Json, object, Members}
 use Rattle.json.specs.Strict.{keys}
 use Rattle.texts.specs.Keys.{key_place}

@@ -1,5 +1,5 @@
 -- Trees that are equal part by part.
-use Rattle.std.proofs.Common.{◌≡◌, ℕ, ◌<◌, ◌≤◌, eqb, true, false, List, length, drop, refl, sym, ap, ap₂, ◌∙◌, arith, ne_eqb, eq-eqb, Vec, Global}
+use Rattle.std.proofs.Common.{◌≡◌, ℕ, ◌≤◌, true, false, List, length, drop, refl, ap, ap₂, ◌∙◌, ne_eqb, eq-eqb, Vec, Global}
 use Rattle.std.proofs.lemmas.List.{drop_all}
 use Rattle.json.specs.Json.{array, object, Items, no_items, item}
 use Rattle.file_trees.specs.FileTrees.{file_tree, items_view, members_view}

@@ -1,6 +1,5 @@
 -- Texts of indexes.
-use Rattle.std.proofs.Common.{◌≡◌, ℕ, zero, suc, ◌<◌, ◌≤◌, ◌^◌, eqb, Bool, true, false, not, ◌&&◌, ◌||◌, List, length, slice_index, Result, Ok, Err, refl, sym, ap, ◌∙◌, true≢false, arith, rules, ne_eqb, ltb-false}
-use Rattle.std.specs.Prelude.{nat_lt}
+use Rattle.std.proofs.Common.{◌≡◌, ℕ, zero, suc, ◌<◌, ◌≤◌, ◌^◌, eqb, Bool, true, false, not, ◌&&◌, ◌||◌, List, length, slice_index, Result, Ok, Err, refl, sym, true≢false, arith, rules, ne_eqb}
 use Rattle.std.proofs.lemmas.Bool.{le-ltb}
 use Rattle.std.specs.List.{list_all}
 use Rattle.std.specs.Char.{is_ascii_digit}

@@ -1,5 +1,5 @@
 -- Parts of a pointer that are read piece by piece.
-use Rattle.std.proofs.Common.{◌≡◌, ℕ, zero, suc, ◌+◌, ◌<◌, ◌≤◌, add-one, one-add, ap₂, eqb, Bool, true, false, cond, List, [], ◌∷◌, ◌++◌, drop, length, get_or, append_assoc, append-nil, option_map, Option, Some, None, MatchOption, IfSome, Bor, length-drop, refl, sym, ap, ◌∙◌, arith}
+use Rattle.std.proofs.Common.{◌≡◌, ℕ, suc, ◌+◌, ◌<◌, ◌≤◌, add-one, one-add, ap₂, eqb, Bool, true, false, List, [], ◌∷◌, ◌++◌, drop, length, get_or, append_assoc, append-nil, option_map, Option, Some, None, MatchOption, IfSome, Bor, length-drop, refl, sym, ap, ◌∙◌, arith}
 use Rattle.std.proofs.lemmas.List.{drop_all}
 use Rattle.std.specs.Option.{option_and_then}
 use Rattle.std.specs.List.{position_or_len, before_first, after_first}

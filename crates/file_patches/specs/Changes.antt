@@ -1,6 +1,6 @@
 -- Changes of the content at a place: `changed`, at the end.
 use Rattle.std.specs.Prelude.{ℕ, zero, suc, List, [], ◌∷◌, Option, Some, None, Result, Ok, Err}
-use Rattle.json.specs.Json.{Json, null, array, object, Items, no_items, item, Members, no_members, member}
+use Rattle.json.specs.Json.{Json, array, object, Items, no_items, item, Members, no_members, member}
 use Rattle.json.specs.Strict.{keys}
 use Rattle.texts.specs.Keys.{key_place}
 use Rattle.file_trees.specs.FileTrees.{file_tree}

@@ -10,7 +10,7 @@ use Rattle.json.specs.Strict.{keys}
 use Rattle.texts.specs.Keys.{key_place}
 use Rattle.file_patches.specs.declared.fault.Cause.{Cause}
 use Rattle.file_patches.specs.declared.fault.Cause.TheVariants.{NoPlace, NotAPlace}
-use Rattle.file_patches.specs.Results.{and_then, on_ok}
+use Rattle.file_patches.specs.Results.{and_then}
 use Rattle.file_patches.specs.Equality.{item_count}
 
 -- digits, and no zero in front of others

@@ -134,11 +134,7 @@ fn with_new(
 
 // The array with an item in front of the one at an index, or at the end.
 #[tactic(auto, using(crate::proofs::Lists::count_rules))]
-fn with_item(
-    items: Vec<FileTree>,
-    part: &Name,
-    content: FileTree,
-) -> Result<FileTree, Fault<Cause>>
+fn with_item(items: Vec<FileTree>, part: &Name, content: FileTree) -> Result<FileTree, Fault<Cause>>
     ensures { Gives file_tree result
         (with_added part.now (file_tree content) (array (items_view items.items))) }
 {

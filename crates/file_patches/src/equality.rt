@@ -49,7 +49,11 @@ fn is_same_bool(one: bool, other: bool) -> bool
 }
 
 #[cycle(equal)]
-fn are_items_equal(alloc: Global, items: &Vec<FileTree>, others: &Vec<FileTree>) -> Result<bool, AllocError>
+fn are_items_equal(
+    alloc: Global,
+    items: &Vec<FileTree>,
+    others: &Vec<FileTree>,
+) -> Result<bool, AllocError>
     ensures { IfOk result (λ same. same ≡ items_equal (items_view items.now.items) (items_view others.now.items)) }
 {
     for i in 0..items.len() {

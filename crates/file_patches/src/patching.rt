@@ -65,7 +65,12 @@ fn operated(alloc: Global, tree: FileTree, operation: &Operation) -> Result<File
 }
 
 // The tree with a copy of a value at a place.
-fn added(alloc: Global, tree: FileTree, place: &[Name], value: &FileTree) -> Result<FileTree, Fault<Cause>>
+fn added(
+    alloc: Global,
+    tree: FileTree,
+    place: &[Name],
+    value: &FileTree,
+) -> Result<FileTree, Fault<Cause>>
     ensures { Gives file_tree result (added place.now (file_tree value.now) (file_tree tree)) }
 {
     let value = copied(alloc, value)?;
@@ -73,7 +78,12 @@ fn added(alloc: Global, tree: FileTree, place: &[Name], value: &FileTree) -> Res
 }
 
 // The tree with a value at a place.
-fn placed(alloc: Global, tree: FileTree, place: &[Name], value: FileTree) -> Result<FileTree, Fault<Cause>>
+fn placed(
+    alloc: Global,
+    tree: FileTree,
+    place: &[Name],
+    value: FileTree,
+) -> Result<FileTree, Fault<Cause>>
     ensures { Gives file_tree result (added place.now (file_tree value) (file_tree tree)) }
 {
     let shallow = is_shallow(place, &value);
@@ -106,7 +116,12 @@ fn if_shallow(shallow: bool, tree: FileTree) -> Result<FileTree, Fault<Cause>>
 }
 
 // The tree with the content of one place at another one.
-fn moved(alloc: Global, tree: FileTree, from: &[Name], place: &[Name]) -> Result<FileTree, Fault<Cause>>
+fn moved(
+    alloc: Global,
+    tree: FileTree,
+    from: &[Name],
+    place: &[Name],
+) -> Result<FileTree, Fault<Cause>>
     ensures { Gives file_tree result
         (and_then (moved from.now place.now (file_tree tree)) (content_at from.now (file_tree tree))) }
 {
@@ -137,7 +152,12 @@ fn with_copy(
 }
 
 // The tree, if the content of a place is equal to a value.
-fn tested(alloc: Global, tree: FileTree, place: &[Name], value: &FileTree) -> Result<FileTree, Fault<Cause>>
+fn tested(
+    alloc: Global,
+    tree: FileTree,
+    place: &[Name],
+    value: &FileTree,
+) -> Result<FileTree, Fault<Cause>>
     ensures { Gives file_tree result
         (and_then (tested (file_tree tree) (file_tree value.now)) (content_at place.now (file_tree tree))) }
 {

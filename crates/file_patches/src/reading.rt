@@ -89,7 +89,12 @@ fn kind_in(members: &Vec<(Name, FileTree)>) -> Result<Kind, Misread>
 fn from_in(alloc: Global, members: &Vec<(Name, FileTree)>) -> Result<Names, Fault<Misread>>
     ensures { Gives (λ place. place) result (from_in (members_view members.now.items)) }
 {
-    pointer_in(alloc, named(members, "from"), Misread::NoFrom, Misread::BadFrom)
+    pointer_in(
+        alloc,
+        named(members, "from"),
+        Misread::NoFrom,
+        Misread::BadFrom,
+    )
 }
 
 fn value_in(alloc: Global, members: &Vec<(Name, FileTree)>) -> Result<FileTree, Fault<Misread>>

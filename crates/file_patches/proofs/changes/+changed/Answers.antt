@@ -1,4 +1,4 @@
-use Rattle.std.proofs.Common.{◌≡◌, ◌<◌, ◌-◌, Ok, length, drop, take, sym, ap, ◌∙◌, take_all, length-drop, arith}
+use Rattle.std.proofs.Common.{◌<◌, ◌-◌, Ok, length, drop, take, sym, ap, ◌∙◌, take_all, length-drop, arith}
 use Rattle.file_trees.specs.declared.tree.FileTree.{Null}
 use Rattle.file_trees.specs.FileTrees.{file_tree}
 use Rattle.file_patches.specs.Counts.{child_count}

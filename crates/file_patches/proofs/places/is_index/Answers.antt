@@ -1,4 +1,4 @@
-use Rattle.std.proofs.Common.{sym, ap, ◌∙◌}
+use Rattle.std.proofs.Common.{ap, ◌∙◌}
 use Rattle.file_patches.specs.Places.{is_index}
 use Rattle.file_patches.proofs.Indexes.{long_index}
 use Rattle.file_patches.proofs.places.is_index.Goals as goal
