@@ -2,6 +2,7 @@ pub mod ChangeCases
 pub mod EqualParts
 pub mod IfDone
 pub mod Indexes
+pub mod Joined
 pub mod KeptDepth
 pub mod KeptNumbers
 pub mod Lists
@@ -10,4 +11,5 @@ pub mod Made
 pub mod NumberDigits
 pub mod Parts
 pub mod PointerParts
+pub mod ReadNumbers
 pub mod SelfEqual

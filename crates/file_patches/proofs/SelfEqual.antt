@@ -1,10 +1,11 @@
 -- A tree in which no object has a name twice is equal to itself.
-use Rattle.std.proofs.Common.{◌≡◌, ◌≢◌, ℕ, zero, suc, ◌<◌, eqb, Bool, true, false, List, [], ◌∷◌, length, get_or, Some, refl, sym, ap, ap₂, ◌∙◌, arith, eq-eqb}
+use Rattle.std.proofs.Common.{◌≡◌, ◌≢◌, ℕ, zero, suc, ◌<◌, eqb, Bool, true, false, List, [], ◌∷◌, length, get_or, Some, Ok, refl, sym, ap, ap₂, ◌∙◌, arith, eq-eqb}
 use Rattle.std.specs.Prelude.{◌&&◌, ◌||◌, bytes_eq, AllPairs, ⊤}
 use Rattle.std.proofs.lemmas.Slice.Eq.{bytes_eq-Decides}
 use Rattle.json.specs.Json.{Json, null, boolean, number, string, array, object, Items, no_items, item, Members, no_members, member}
 use Rattle.json.specs.Strict.{keys, AreDistinct, HasUniqueKeys, ItemsHaveUniqueKeys, MembersHaveUniqueKeys}
 use Rattle.file_patches.specs.Numbers.{same_bool, same_number, number_value, same_values}
+use Rattle.file_patches.specs.Patching.{tested}
 use Rattle.file_patches.specs.Equality.{equal, items_equal, members_equal, named, passes, item_count, member_count}
 
 both : (a b : Bool) → a ≡ true → b ≡ true → (a && b) ≡ true
@@ -77,3 +78,6 @@ mutual
   members_self : (ms ns : Members) → MembersHaveUniqueKeys ms → AreNamed ms ns → members_equal ms ns ≡ true
   members_self no_members ns h n = refl
   members_self (member k j ms) ns h n = both _ _ (ap (passes (equal j)) n.0 ∙ equal_self j h.0) (members_self ms ns h.1 n.1)
+
+pub test_self : (j k : Json) → HasUniqueKeys k → tested j k k ≡ Ok j
+test_self j k h = rw (equal_self k h) refl
