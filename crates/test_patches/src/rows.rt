@@ -87,13 +87,25 @@ pub const PATCHED: [(&str, &str, &str); 34] = [
     ),
     // The complete tree.
     ("1.50", r#"[{"op":"add","path":"","value":[2.0]}]"#, "[2.0]"),
-    ("[1]", r#"[{"op":"replace","path":"","value":null}]"#, "null"),
+    (
+        "[1]",
+        r#"[{"op":"replace","path":"","value":null}]"#,
+        "null",
+    ),
     ("[1]", r#"[{"op":"remove","path":""}]"#, "0 WholeFile"),
     ("[1]", r#"[{"op":"copy","from":"","path":"/0"}]"#, "[[1],1]"),
     // Items of arrays.
     ("[1]", r#"[{"op":"add","path":"/1","value":2}]"#, "[1,2]"),
-    ("[1]", r#"[{"op":"add","path":"/2","value":2}]"#, "0 NoPlace"),
-    ("[1]", r#"[{"op":"replace","path":"/-","value":2}]"#, "0 NoPlace"),
+    (
+        "[1]",
+        r#"[{"op":"add","path":"/2","value":2}]"#,
+        "0 NoPlace",
+    ),
+    (
+        "[1]",
+        r#"[{"op":"replace","path":"/-","value":2}]"#,
+        "0 NoPlace",
+    ),
     ("[1]", r#"[{"op":"remove","path":"/00"}]"#, "0 NotAPlace"),
     (
         "[1]",

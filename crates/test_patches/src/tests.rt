@@ -1,5 +1,10 @@
 //! Each patch of the rows, with what it makes.
 
+ghost use Rattle.json.specs.Tree.{HasNumbers};
+ghost use Rattle.file_trees.specs.FileTrees.{file_tree};
+ghost use Rattle.file_patches.specs.Kept.{PatchHasNumbers};
+ghost use Rattle.file_patches.specs.Operations.{patch_view};
+
 use crate::rows::PATCHED;
 use file_patches::{Fault, Operation, ReadRefusal, patched, read_patch};
 use file_trees::{FileTree, read_file, write_file};
@@ -20,7 +25,10 @@ fn answer(alloc: Global, document: &str, patch: &str) -> Result<String, Fail> {
     }
 }
 
-fn made(alloc: Global, tree: &FileTree, patch: &[Operation]) -> Result<String, Fail> {
+fn made(alloc: Global, tree: &FileTree, patch: &[Operation]) -> Result<String, Fail>
+    requires tree { HasNumbers (file_tree tree.now) }
+    requires patch { PatchHasNumbers (patch_view patch.now) }
+{
     match patched(alloc, tree, patch) {
         Ok(tree) => Ok(String::from_utf8(write_file(alloc, &tree)?)?),
         Err(Fault::Refused((number, cause))) => Ok(format!(in alloc; "{number} {cause:?}")?),
@@ -29,10 +37,11 @@ fn made(alloc: Global, tree: &FileTree, patch: &[Operation]) -> Result<String, F
 }
 
 #[test]
-fn patches(rt: HostRuntime) {
+fn patches(rt: HostRuntime) -> Result<(), Fail> {
     let alloc = rt.alloc();
     for (document, patch, wanted) in PATCHED {
-        let found = answer(alloc, document, patch).expect(&rt, "memory, and JSON");
+        let found = answer(alloc, document, patch)?;
         assert_eq!(rt; found.as_str(), wanted);
     }
+    Ok(())
 }
