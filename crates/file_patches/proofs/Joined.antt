@@ -1,5 +1,5 @@
 -- Patches one after another.
-use Rattle.std.proofs.Common.{◌≡◌, ℕ, zero, suc, ◌+◌, List, [], ◌∷◌, ◌++◌, length, Result, Ok, Err, refl, sym, ap, ◌∙◌, arith}
+use Rattle.std.proofs.Common.{◌≡◌, ℕ, ◌+◌, List, [], ◌∷◌, ◌++◌, length, Result, Ok, Err, refl, sym, ap, ◌∙◌, arith}
 use Rattle.json.specs.Json.{Json}
 use Rattle.file_patches.specs.declared.fault.Cause.{Cause}
 use Rattle.file_patches.specs.Operations.{OperationTree}

@@ -1,5 +1,5 @@
 -- What holds of the tree that a definition has holds of the one that a call returns.
-use Rattle.std.proofs.Common.{◌≡◌, Result, Ok, Err, IfOk, subst}
+use Rattle.std.proofs.Common.{Result, Ok, Err, IfOk, subst}
 use Rattle.file_patches.specs.declared.fault.Fault.{Fault}
 use Rattle.file_patches.specs.declared.fault.Fault.TheVariants.{Refused, NoMemory}
 use Rattle.file_patches.specs.Results.{Gives}

@@ -1,5 +1,5 @@
 -- A patch that is read from a tree of texts of numbers brings such texts alone.
-use Rattle.std.proofs.Common.{ℕ, ◌+◌, Bool, true, false, cond, List, [], ◌∷◌, Option, Some, None, IfSome, Result, Ok, Err, IfOk}
+use Rattle.std.proofs.Common.{ℕ, ◌+◌, Bool, true, false, cond, List, ◌∷◌, Option, Some, None, IfSome, Result, Ok, Err, IfOk}
 use Rattle.std.specs.Prelude.{bytes_eq, codes}
 use Rattle.json.specs.Json.{Json, null, boolean, number, string, array, object, Items, no_items, item, Members, no_members, member}
 use Rattle.json.specs.Tree.{HasNumbers, ItemsHaveNumbers, MembersHaveNumbers}
@@ -8,7 +8,7 @@ use Rattle.file_patches.specs.declared.fault.Misread.TheVariants.{NoValue}
 use Rattle.file_patches.specs.declared.kinds.Kind.{Kind}
 use Rattle.file_patches.specs.declared.kinds.Kind.TheVariants as kinds
 use Rattle.file_patches.specs.Equality.{named}
-use Rattle.file_patches.specs.Operations.{OperationTree, add, remove, replace, move, copy, test}
+use Rattle.file_patches.specs.Operations.{OperationTree, add, replace, move, copy, test}
 use Rattle.file_patches.specs.Kept.{BringsNumbers, PatchHasNumbers}
 use Rattle.file_patches.specs.Reading.{or_misread, kind_in, path_in, from_in, value_in, operation_with, operation_of, misread_in, operations_from, patch_of}
 use Rattle.file_patches.specs.Results.{on_ok}

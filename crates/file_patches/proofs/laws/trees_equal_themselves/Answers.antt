@@ -1,4 +1,4 @@
-use Rattle.std.proofs.Common.{refl, ap, ◌∙◌}
+use Rattle.std.proofs.Common.{ap, ◌∙◌}
 use Rattle.file_patches.specs.Patching.{tested}
 use Rattle.file_patches.specs.Results.{and_then}
 use Rattle.file_patches.proofs.SelfEqual.{equal_self, test_self}
