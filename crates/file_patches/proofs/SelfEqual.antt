@@ -4,18 +4,14 @@ use Rattle.std.specs.Prelude.{◌&&◌, bytes_eq, ⊤}
 use Rattle.std.proofs.lemmas.Slice.Eq.{bytes_eq-Decides}
 use Rattle.json.specs.Json.{Json, null, boolean, number, string, array, object, Items, no_items, item, Members, no_members, member}
 use Rattle.json.specs.Strict.{keys, AreDistinct, HasUniqueKeys, ItemsHaveUniqueKeys, MembersHaveUniqueKeys}
+use Rattle.texts.proofs.Conjunction.{both}
+use Rattle.texts.proofs.KeyOrder.{bytes_eq-refl}
 use Rattle.file_patches.specs.Numbers.{same_bool}
 use Rattle.file_patches.specs.Patching.{tested}
 use Rattle.file_patches.specs.Equality.{equal, items_equal, members_equal, named, passes, item_count, member_count}
 
-both : (a b : Bool) → a ≡ true → b ≡ true → (a && b) ≡ true
-both a b e f = rw (e, f) refl
-
 same_count : (n : ℕ) → eqb n n ≡ true
 same_count n = eq-eqb n n refl
-
-same_text : (s : List ℕ) → bytes_eq s s ≡ true
-same_text s = (bytes_eq-Decides s s).1 refl
 
 other_text : (b : Bool) (s t : List ℕ) → bytes_eq s t ≡ b → (s ≡ t → ⊥) → b ≡ false
 other_text true s t e n = absurd (n ((bytes_eq-Decides s t).0 e))
@@ -54,7 +50,7 @@ more_named k j (member n i ms) ns l h = (rw l.0 h.0, more_named k j ms ns l.1 h.
 all_named : (ms : Members) → AreDistinct (keys ms) → AreNamed ms ms
 all_named no_members h = tt
 all_named (member k j ms) h =
-    (rw (same_text k) refl, more_named k j ms ms (lacks k ms h) (all_named ms (λ i l d a b. h (suc i) (suc l) d (omega (arith, a)) (omega (arith, b)))))
+    (rw (bytes_eq-refl k) refl, more_named k j ms ms (lacks k ms h) (all_named ms (λ i l d a b. h (suc i) (suc l) d (omega (arith, a)) (omega (arith, b)))))
 
 -- ---- trees
 
@@ -66,8 +62,8 @@ mutual
   pub equal_self : (j : Json) → HasUniqueKeys j → equal j j ≡ true
   equal_self null h = refl
   equal_self (boolean b) h = same_truth b
-  equal_self (number s) h = rw (same_text s) refl
-  equal_self (string s) h = same_text s
+  equal_self (number s) h = rw (bytes_eq-refl s) refl
+  equal_self (string s) h = bytes_eq-refl s
   equal_self (array js) h = both _ _ (same_count (item_count js)) (items_self js h)
   equal_self (object ms) h = both _ _ (same_count (member_count ms)) (members_self ms ms h.1 (all_named ms h.0))
 

@@ -73,7 +73,8 @@ fn changed_child(
 }
 
 fn with_replaced(tree: FileTree, part: &Name, content: FileTree) -> Result<FileTree, Fault<Cause>>
-    ensures { Gives file_tree result (on_ok (λ i. put i (file_tree content) (file_tree tree)) (position part.now (file_tree tree))) }
+    ensures { Gives file_tree result
+        (on_ok (λ i. put i (file_tree content) (file_tree tree)) (position part.now (file_tree tree))) }
 {
     let at = position(&tree, part)?;
     Ok(with_content(tree, at, content))

@@ -6,7 +6,8 @@ ghost use Rattle.json.specs.Tree.{HasNumbers, depth, items_depth, members_depth}
 ghost use Rattle.file_trees.specs.FileTrees.{file_tree, items_view, members_view};
 ghost use Rattle.file_patches.specs.Places.{content_at};
 ghost use Rattle.file_patches.specs.Operations.{operation_tree, patch_view};
-ghost use Rattle.file_patches.specs.Patching.{begins_with, is_same_place, is_shallow, if_shallow, added, replaced, moved};
+ghost use Rattle.file_patches.specs.Patching.{begins_with, is_same_place, is_shallow, if_shallow, added};
+ghost use Rattle.file_patches.specs.Patching.{replaced, moved};
 ghost use Rattle.file_patches.specs.Patching.{tested, operated, patched};
 ghost use Rattle.file_patches.specs.Kept.{PatchHasNumbers};
 ghost use Rattle.file_patches.specs.Results.{and_then, Gives};

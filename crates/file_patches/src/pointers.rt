@@ -1,6 +1,7 @@
 //! JSON Pointers.
 
-ghost use Rattle.std.specs.Prelude.{◌≡◌, ◌<◌, ◌≤◌, ◌++◌, length, IfOk, IfSome, option_map, option_and_then, string_bytes, MatchOption, Some};
+ghost use Rattle.std.specs.Prelude.{◌≡◌, ◌<◌, ◌≤◌, ◌++◌, length, IfOk, IfSome, option_map, option_and_then};
+ghost use Rattle.std.specs.Prelude.{string_bytes, MatchOption, Some};
 ghost use Rattle.std.specs.List.{slice_split};
 ghost use Rattle.file_patches.specs.Pointers.{behind, unescaped, after_tilde, all_unescaped, is_slash, pointer};
 
