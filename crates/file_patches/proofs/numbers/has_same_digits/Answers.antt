@@ -1,4 +1,4 @@
-use Rattle.std.proofs.Common.{◌≡◌, ◌-◌, take, drop, true≢false, sym, ap, ◌∙◌, take_all, length-drop, arith}
+use Rattle.std.proofs.Common.{◌≡◌, ◌-◌, take, drop, length, true≢false, sym, ap, ◌∙◌, take_all, length-drop, arith}
 use Rattle.file_patches.specs.Numbers.{all_zeros}
 use Rattle.file_patches.proofs.NumberDigits.{not_zeros, empty_zeros}
 use Rattle.file_patches.proofs.numbers.has_same_digits.Goals.{then-loop-at-test+else-at-other, else-loop-at-test}
