@@ -5,20 +5,13 @@ use Rattle.std.specs.List.{list_all}
 use Rattle.std.specs.Char.{is_ascii_digit}
 use Rattle.std.specs.Str.Parse.{ParsesUnsigned, digits_value}
 use Rattle.std.proofs.lemmas.Str.Parse.{IsNumeralModel, numerals_by_value, parse_digits}
+use Rattle.texts.proofs.Conjunction.{first, second}
 use Rattle.file_patches.specs.declared.fault.Cause.TheVariants.{NoPlace}
 use Rattle.file_patches.specs.Places.{is_index, index_of}
 
 pub positive : (n : ℕ) → false ≡ eqb n 0 → 0 < n
 positive zero h = absurd (true≢false (sym h))
 positive (suc n) h = omega arith
-
-left_of : (a b : Bool) → (a && b) ≡ true → a ≡ true
-left_of true b h = refl
-left_of false b h = h
-
-right_of : (a b : Bool) → (a && b) ≡ true → b ≡ true
-right_of true b h = h
-right_of false b h = absurd (true≢false (sym h))
 
 not_false : (a : Bool) → not a ≡ true → a ≡ false
 not_false true h = sym h
@@ -29,11 +22,11 @@ pub long_index : (s : List ℕ) → false ≡ eqb (length s) 0 → true ≡ list
 long_index s some digits long = rw (sym some, sym digits, ne_eqb (length s) 1 long) refl
 
 digits_of : (s : List ℕ) → is_index s ≡ true → list_all is_ascii_digit s ≡ true
-digits_of s h = right_of (not (eqb (length s) 0)) (list_all is_ascii_digit s) (left_of (not (eqb (length s) 0) && list_all is_ascii_digit s) (eqb (length s) 1 || not (eqb (slice_index s 0) 48)) h)
+digits_of s h = second (not (eqb (length s) 0)) (list_all is_ascii_digit s) (first (not (eqb (length s) 0) && list_all is_ascii_digit s) (eqb (length s) 1 || not (eqb (slice_index s 0) 48)) h)
 
 some_of : (s : List ℕ) → is_index s ≡ true → 0 < length s
 some_of s h =
-    positive (length s) (sym (not_false (eqb (length s) 0) (left_of (not (eqb (length s) 0)) (list_all is_ascii_digit s) (left_of (not (eqb (length s) 0) && list_all is_ascii_digit s) (eqb (length s) 1 || not (eqb (slice_index s 0) 48)) h))))
+    positive (length s) (sym (not_false (eqb (length s) 0) (first (not (eqb (length s) 0)) (list_all is_ascii_digit s) (first (not (eqb (length s) 0) && list_all is_ascii_digit s) (eqb (length s) 1 || not (eqb (slice_index s 0) 48)) h))))
 
 pub digits_model : IsNumeralModel (λ ds. list_all is_ascii_digit ds ≡ true) (digits_value 10)
 digits_model = numerals_by_value _ (search rules)

@@ -1,8 +1,15 @@
 pub mod ChangeCases
 pub mod EqualParts
+pub mod IfDone
 pub mod Indexes
+pub mod Joined
+pub mod KeptDepth
+pub mod KeptNumbers
 pub mod Lists
 pub mod Loops
+pub mod Made
 pub mod NumberDigits
 pub mod Parts
 pub mod PointerParts
+pub mod ReadNumbers
+pub mod SelfEqual

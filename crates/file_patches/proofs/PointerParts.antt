@@ -14,11 +14,6 @@ map_none : {A : Type 0} (o : Option (List A)) → option_map (λ s. [] ++ s) o �
 map_none None = refl
 map_none (Some s) = refl
 
--- what was put so far, and a text more
-pub put_more : {A : Type 0} (xs ys : List A) (o : Option (List A)) → option_map (λ s. xs ++ s) (option_map (λ s. ys ++ s) o) ≡ option_map (λ s. (xs ++ ys) ++ s) o
-put_more xs ys None = refl
-put_more xs ys (Some s) = ap Some (sym (append_assoc xs ys s))
-
 abbrev pub is_tilde : ℕ → Bool
 is_tilde c = eqb c 126
 

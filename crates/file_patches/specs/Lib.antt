@@ -8,4 +8,5 @@ pub mod Places
 pub mod Changes
 pub mod Operations
 pub mod Patching
+pub mod Kept
 pub mod Reading

@@ -1,10 +1,10 @@
 -- The patch that a tree is: `patch_of`, at the end.
-use Rattle.std.specs.Prelude.{ℕ, ◌+◌, if◌then◌else◌, List, [], ◌∷◌, bytes_eq, codes, Option, Some, None, Result, Ok}
-use Rattle.std.specs.Prelude.{Err}
+use Rattle.std.specs.Prelude.{ℕ, ◌+◌, if◌then◌else◌, List, [], ◌∷◌, bytes_eq, codes, Option, Some, None, Result}
+use Rattle.std.specs.Prelude.{Ok, Err}
 use Rattle.json.specs.Json.{Json, string, array, object, Items, no_items, item, Members}
 use Rattle.file_patches.specs.declared.fault.Misread.{Misread}
-use Rattle.file_patches.specs.declared.fault.Misread.TheVariants.{NotAnObject, NoKind, UnknownKind, NoPath, BadPath}
-use Rattle.file_patches.specs.declared.fault.Misread.TheVariants.{NoFrom}
+use Rattle.file_patches.specs.declared.fault.Misread.TheVariants.{NotAnObject, NoKind, UnknownKind, NoPath}
+use Rattle.file_patches.specs.declared.fault.Misread.TheVariants.{BadPath, NoFrom}
 use Rattle.file_patches.specs.declared.fault.Misread.TheVariants.{BadFrom, NoValue}
 use Rattle.file_patches.specs.declared.fault.ReadRefusal.{ReadRefusal}
 use Rattle.file_patches.specs.declared.fault.ReadRefusal.TheVariants.{NotAList, At}

@@ -10,6 +10,7 @@ mod copies;
 mod equality;
 mod fault;
 mod kinds;
+pub mod laws;
 mod numbers;
 mod operations;
 mod patching;

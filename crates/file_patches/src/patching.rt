@@ -1,13 +1,15 @@
 //! What a patch makes of a tree.
 
-ghost use Rattle.std.specs.Prelude.{◌≡◌, ◌≤◌, nat_le};
-ghost use Rattle.json.specs.Tree.{depth, items_depth, members_depth};
+ghost use Rattle.std.specs.Prelude.{◌≡◌, ◌≤◌, nat_le, IfOk};
+ghost use Rattle.json.specs.Json.{max_depth};
+ghost use Rattle.json.specs.Tree.{HasNumbers, depth, items_depth, members_depth};
 ghost use Rattle.file_trees.specs.FileTrees.{file_tree, items_view, members_view};
 ghost use Rattle.file_patches.specs.Places.{content_at};
 ghost use Rattle.file_patches.specs.Operations.{operation_tree, patch_view};
-ghost use Rattle.file_patches.specs.Patching.{begins_with, is_same_place, is_shallow, if_shallow, added, replaced};
-ghost use Rattle.file_patches.specs.Patching.{moved};
+ghost use Rattle.file_patches.specs.Patching.{begins_with, is_same_place, is_shallow, if_shallow, added};
+ghost use Rattle.file_patches.specs.Patching.{replaced, moved};
 ghost use Rattle.file_patches.specs.Patching.{tested, operated, patched};
+ghost use Rattle.file_patches.specs.Kept.{PatchHasNumbers};
 ghost use Rattle.file_patches.specs.Results.{and_then, Gives};
 
 use crate::changes::{Change, changed};
@@ -38,6 +40,22 @@ pub fn patched(
     patch: &[Operation],
 ) -> Result<FileTree, Fault<(usize, Cause)>>
     // The tree and the refusal are the definition's, both ways.
+    ensures tree { Gives file_tree result (patched (patch_view patch.now) (file_tree tree.now)) }
+
+    // What is made of a tree that can be written and read back can be, too.
+    ensures numbers { HasNumbers (file_tree tree.now) → PatchHasNumbers (patch_view patch.now)
+        → IfOk result (λ made. HasNumbers (file_tree made)) }
+    ensures nests { depth (file_tree tree.now) ≤ max_depth
+        → IfOk result (λ made. depth (file_tree made) ≤ max_depth) }
+{
+    made(alloc, tree, patch)
+}
+
+fn made(
+    alloc: Global,
+    tree: &FileTree,
+    patch: &[Operation],
+) -> Result<FileTree, Fault<(usize, Cause)>>
     ensures { Gives file_tree result (patched (patch_view patch.now) (file_tree tree.now)) }
 {
     let mut current = copied(alloc, tree)?;

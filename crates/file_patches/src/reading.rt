@@ -1,13 +1,15 @@
 //! Reading a patch from the tree of its document.
 
-ghost use Rattle.std.specs.Prelude.{◌≡◌, option_map};
+ghost use Rattle.std.specs.Prelude.{◌≡◌, IfOk, option_map};
 ghost use Rattle.json.specs.Json.{Json};
+ghost use Rattle.json.specs.Tree.{HasNumbers};
 ghost use Rattle.file_trees.specs.FileTrees.{file_tree, members_view};
 ghost use Rattle.file_patches.specs.Equality.{named};
 ghost use Rattle.file_patches.specs.Operations.{operation_tree, patch_view};
 ghost use Rattle.file_patches.specs.Reading.{text_in, kind_in, pointer_in, from_in, value_in, operation_with};
 ghost use Rattle.file_patches.specs.Reading.{operation_of};
 ghost use Rattle.file_patches.specs.Reading.{patch_of};
+ghost use Rattle.file_patches.specs.Kept.{PatchHasNumbers};
 ghost use Rattle.file_patches.specs.Results.{on_ok, Gives};
 
 use crate::copies::copied;
@@ -29,6 +31,16 @@ use texts::{Name, Names, Str};
 /// - `At`: if and only if an item is not an operation; the number of the first such item, from 0, and the cause
 pub fn read_patch(alloc: Global, tree: &FileTree) -> Result<Vec<Operation>, Fault<ReadRefusal>>
     // The patch and the refusal are the definition's, both ways.
+    ensures patch { Gives (λ patch. patch_view patch.items) result (patch_of (file_tree tree.now)) }
+
+    // Each number in its values is one, if each number of the document is.
+    ensures numbers { HasNumbers (file_tree tree.now)
+        → IfOk result (λ patch. PatchHasNumbers (patch_view patch.items)) }
+{
+    patch_of(alloc, tree)
+}
+
+fn patch_of(alloc: Global, tree: &FileTree) -> Result<Vec<Operation>, Fault<ReadRefusal>>
     ensures { Gives (λ patch. patch_view patch.items) result (patch_of (file_tree tree.now)) }
 {
     let FileTree::Array(items) = tree else {

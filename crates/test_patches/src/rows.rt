@@ -2,7 +2,7 @@
 
 /// A document, a patch, and the document that it makes; or the number of the operation that is refused, and why. The
 /// kinds of the first rows are those of the examples of RFC 6902.
-pub const PATCHED: [(&str, &str, &str); 34] = [
+pub const PATCHED: [(&str, &str, &str); 36] = [
     // A member and an item are added, removed, replaced, moved, tested.
     (
         r#"{"tea":"black"}"#,
@@ -111,6 +111,17 @@ pub const PATCHED: [(&str, &str, &str); 34] = [
         "[1]",
         r#"[{"op":"remove","path":"/18446744073709551616"}]"#,
         "0 NoPlace",
+    ),
+    // Contents that are not there.
+    (
+        "[1]",
+        r#"[{"op":"copy","from":"/1","path":"/0"}]"#,
+        "0 NoPlace",
+    ),
+    (
+        "[1]",
+        r#"[{"op":"test","path":"/0/a","value":1}]"#,
+        "0 NotAPlace",
     ),
     // A move into itself, and one to where it is.
     (

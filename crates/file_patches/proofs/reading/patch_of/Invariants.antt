@@ -3,7 +3,7 @@ use Rattle.file_trees.specs.FileTrees.{items_view}
 use Rattle.file_patches.specs.Operations.{patch_view}
 use Rattle.file_patches.specs.Reading.{operations_from}
 use Rattle.file_patches.specs.Results.{on_ok}
-use Rattle.file_patches.proofs.reading.read_patch.Given as goal
+use Rattle.file_patches.proofs.reading.patch_of.Given as goal
 
 abbrev pub invariant-loop-i : goal.invariant-loop-i
 invariant-loop-i l =
