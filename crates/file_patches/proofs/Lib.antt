@@ -13,3 +13,7 @@ pub mod Parts
 pub mod PointerParts
 pub mod ReadNumbers
 pub mod SelfEqual
+pub mod Keeps
+pub mod KeepsKeys
+pub mod ReadsValues
+pub mod Returned

@@ -10,3 +10,4 @@ pub mod Operations
 pub mod Patching
 pub mod Kept
 pub mod Reading
+pub mod Values

@@ -9,7 +9,9 @@ ghost use Rattle.file_patches.specs.Equality.{equal};
 ghost use Rattle.file_patches.specs.Operations.{OperationTree, test};
 ghost use Rattle.file_patches.specs.Patching.{operated, patched, patched_from};
 ghost use Rattle.file_patches.specs.Places.{content_at};
+ghost use Rattle.file_patches.specs.Reading.{patch_of};
 ghost use Rattle.file_patches.specs.Results.{and_then};
+ghost use Rattle.file_patches.specs.Values.{ValuesHave};
 
 /// A patch with no operations changes nothing, and two patches one after another are the patch of both.
 ///
@@ -25,4 +27,13 @@ pub fn trees_equal_themselves()
     ensures equal { (tree : Json) → HasUniqueKeys tree → equal tree tree ≡ true }
     ensures tested { (place : List (List ℕ)) (tree content : Json) → content_at place tree ≡ Ok content
         → HasUniqueKeys content → operated (test place content) tree ≡ Ok tree }
+{}
+
+/// What a patch makes has no object with a name twice, if neither the tree nor a value of the patch has one. The values
+/// of a patch that is read have none, if the tree that it is read from has none.
+pub fn names_stay_unique()
+    ensures made { (patch : List OperationTree) (tree made : Json) → ValuesHave HasUniqueKeys patch
+        → HasUniqueKeys tree → patched patch tree ≡ Ok made → HasUniqueKeys made }
+    ensures read { (tree : Json) (patch : List OperationTree) → HasUniqueKeys tree → patch_of tree ≡ Ok patch
+        → ValuesHave HasUniqueKeys patch }
 {}
