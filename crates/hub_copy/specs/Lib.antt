@@ -1,0 +1,3 @@
+pub mod KeptRecords
+pub mod KeptStand
+pub mod LaterViews
