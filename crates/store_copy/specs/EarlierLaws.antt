@@ -101,7 +101,7 @@ by_parts number ps t u v w (Ok s) (Err fault) e h e' h' has = cc
 by_parts number ps t u v w (Err fault) r' e h e' h' has = cc
 
 pub earlier_snapshot_stands : (number : ℕ) (ps : List (List ℕ)) (t u : StoredState) (v w : Option (List ℕ))
-    → stands_for ps ≡ Ok (t, v) → stands_for (take number ps) ≡ Ok (u, w) → HasSnapshot u
+    → 0 < number → stands_for ps ≡ Ok (t, v) → stands_for (take number ps) ≡ Ok (u, w) → HasSnapshot u
     → stands_for (ps ++ snapshot_text u ∷ []) ≡ Ok (u, v)
-earlier_snapshot_stands number ps t u v w h h' has =
+earlier_snapshot_stands number ps t u v w some h h' has =
     by_parts number ps t u v w (stands ps) (stands (take number ps)) refl h refl h' has

@@ -1,5 +1,6 @@
 pub mod Earlier
 pub mod EarlierLaws
+pub mod HubLaws
 pub mod NewPayloads
 pub mod PairBeginnings
 pub mod PairLaws

@@ -1,8 +1,7 @@
 -- The payloads of a store that is made anew, and the line that says so. Read it from the end: `IsPlanned`, `IsAllowed`,
 -- `IsTakenBack`, `IsCopied`, then `IsCompacted`.
-use Rattle.std.specs.Prelude.{◌≡◌, ℕ, ◌<◌, List, [], ◌∷◌, ◌++◌, length, take, codes, decimal, Option, None, Ok}
+use Rattle.std.specs.Prelude.{◌≡◌, ℕ, ◌<◌, List, [], ◌∷◌, ◌++◌, length, codes, decimal, Option, None, Ok}
 use Rattle.store_run.specs.declared.session.StoredSession as OfSession
-use Rattle.store_copy.specs.Earlier.{EarlierStands, EarlierSnapshotStands}
 use Rattle.store_copy.specs.declared.new_payloads.Remaking.{Remaking}
 use Rattle.store_copy.specs.declared.new_payloads.Remaking.TheVariants.{Compact, Copy, Back}
 
@@ -38,29 +37,34 @@ module _ {A : Type 0} (session : OfSession.Ghosts A) where
     pub stand : session.stands_for payloads ≡ Ok (t, version)
     pub said : line ≡ copied_line (length before)
 
-  -- The new payloads are the same and one more, the snapshot of the state after the record with this number, or after
-  -- the last one. They stand for that state, at the version from before. The line is `back N`.
+-- `earlier_payloads` says which payloads stand for the state to which a store goes back, of the number of a record and
+-- all payloads.
+module _ {A : Type 0} (session : OfSession.Ghosts A) (earlier_payloads : ℕ → List (List ℕ) → List (List ℕ)) where
+  -- The new payloads are the same and one more, the snapshot of the earlier state. They stand for that state, at the
+  -- version from before. The line is `back N`.
   pub record IsTakenBack (number : ℕ) (before : List (List ℕ)) (t : session.State) (version : Option (List ℕ))
       (payloads : List (List ℕ)) (line : List ℕ) : Type 0 where
     pub earlier : session.State
     pub due : Option (List ℕ)
-    pub stood : session.stands_for (take number before) ≡ Ok (earlier, due)
+    pub stood : session.stands_for (earlier_payloads number before) ≡ Ok (earlier, due)
     pub has : session.has_snapshot earlier
     pub are : payloads ≡ before ++ session.snapshot_text earlier ∷ []
     pub stand : session.stands_for payloads ≡ Ok (earlier, version)
     pub said : line ≡ back_line number
 
-  -- what a command needs of a session beside the laws of all: only going back does, to a record that there is
-  abbrev pub IsAllowed : Remaking → Type 0
-  IsAllowed Compact = Unit {0}
-  IsAllowed Copy = Unit {0}
-  IsAllowed (Back number) = (0 < number) × EarlierStands session × EarlierSnapshotStands session
+-- what a command needs: only going back needs something, a record that there may be
+abbrev pub IsAllowed : Remaking → Type 0
+IsAllowed Compact = Unit {0}
+IsAllowed Copy = Unit {0}
+IsAllowed (Back number) = 0 < number
 
 -- what each command makes
-abbrev pub IsPlanned : {A : Type 0} → (session : OfSession.Ghosts A) → (List (List ℕ) → List (List ℕ)) → Remaking
-    → List (List ℕ) → session.State → Option (List ℕ) → List (List ℕ) → List ℕ → Type 0
-IsPlanned session beginning Compact before t version payloads line =
+abbrev pub IsPlanned : {A : Type 0} → (session : OfSession.Ghosts A) → (List (List ℕ) → List (List ℕ))
+    → (ℕ → List (List ℕ) → List (List ℕ)) → Remaking → List (List ℕ) → session.State → Option (List ℕ)
+    → List (List ℕ) → List ℕ → Type 0
+IsPlanned session beginning earlier Compact before t version payloads line =
     IsCompacted session beginning before t version payloads line
-IsPlanned session beginning Copy before t version payloads line = IsCopied session before t version payloads line
-IsPlanned session beginning (Back number) before t version payloads line =
-    IsTakenBack session number before t version payloads line
+IsPlanned session beginning earlier Copy before t version payloads line =
+    IsCopied session before t version payloads line
+IsPlanned session beginning earlier (Back number) before t version payloads line =
+    IsTakenBack session earlier number before t version payloads line

@@ -4,10 +4,12 @@
 //! records, and [`back`] one that goes back to the state after a record. They only read the store that is there.
 //! specs/Remakes.antt has what they promise, and specs/NewPayloads.antt which payloads the new store has.
 //!
-//! A session says by [`RemadeSession`] what a new store of it begins with, and by [`EarlierSession`] that it can go
-//! back. Stores of a pair have both.
+//! A session says by [`RemadeSession`] what a new store of it begins with, and which payloads stand for the state to
+//! which it goes back. Stores of a pair and those of a hub say so. A view that was added to a hub stays in its store: a
+//! store that goes back shows in it what its lens makes of the earlier document.
 #![tactic(auto)]
 
+mod hub_stores;
 mod lines;
 mod new_payloads;
 mod pair_stores;
@@ -15,4 +17,4 @@ mod remaking;
 mod session;
 
 pub use remaking::{back, compact, copy};
-pub use session::{EarlierSession, RemadeSession};
+pub use session::RemadeSession;

@@ -1,5 +1,5 @@
 //! The payloads of a store that is made anew, and the line that says so.
-ghost use Rattle.std.specs.Prelude.{◌≡◌, ◌∷◌, ◌++◌, [], List, ℕ, take, Ok, Some, IfOk, MatchResult};
+ghost use Rattle.std.specs.Prelude.{◌≡◌, ◌∷◌, ◌++◌, [], List, ℕ, Ok, Some, IfOk, MatchResult};
 ghost use Rattle.std.specs.declared.option.Option.{Option};
 ghost use Rattle.store_run.specs.Making.{IsMakingFault};
 ghost use Rattle.store_run.specs.Refusals.{refusal_of_payloads};
@@ -36,9 +36,9 @@ pub(crate) fn new_payloads<A: RemadeSession + Drop>(
     payloads: Payloads,
 ) -> Result<StoreText, MakingFault>
     ensures made { (t : A.State) (version : Option (List ℕ)) → A.stands_for payloads ≡ Ok (t, version)
-        → IsAllowed A.StoredSession way
+        → IsAllowed way
         → MatchResult result
-        (λ text. IsPlanned A.StoredSession A.beginning way payloads t version
+        (λ text. IsPlanned A.StoredSession A.beginning A.earlier way payloads t version
         text.payloads text.lines.items)
         (λ fault. fault ≡ MakingFault.NoMemory) }
     ensures refused { (reason : StoreRefusal)
@@ -74,9 +74,9 @@ fn text_of<A: RemadeSession + Drop>(
     payloads: Payloads,
 ) -> Result<StoreText, MakingFault>
     ensures { (version : Option (List ℕ))
-        → A.stands_for payloads ≡ Ok (A.state session.now, version) → IsAllowed A.StoredSession way
+        → A.stands_for payloads ≡ Ok (A.state session.now, version) → IsAllowed way
         → MatchResult result
-        (λ text. IsPlanned A.StoredSession A.beginning way payloads (A.state session.now) version
+        (λ text. IsPlanned A.StoredSession A.beginning A.earlier way payloads (A.state session.now) version
         text.payloads text.lines.items)
         (λ fault. fault ≡ MakingFault.NoMemory) }
 {
@@ -127,36 +127,23 @@ fn copied<A: RemadeSession>(alloc: Global, payloads: Payloads) -> Result<StoreTe
     Ok(StoreText { payloads, lines })
 }
 
-// A store of the same records that goes back to the state after this one.
+// A store of the same records that goes back to the state after the one with this number.
 fn taken_back<A: RemadeSession + Drop>(
     alloc: Global,
     number: usize,
     payloads: Payloads,
 ) -> Result<StoreText, MakingFault>
     ensures { (t : A.State) (version : Option (List ℕ)) → A.stands_for payloads ≡ Ok (t, version)
-        → IsAllowed A.StoredSession (Remaking.Back number)
+        → IsAllowed (Remaking.Back number)
         → MatchResult result
-        (λ text. IsTakenBack A.StoredSession number payloads t version text.payloads text.lines.items)
+        (λ text. IsTakenBack A.StoredSession A.earlier number payloads t version text.payloads text.lines.items)
         (λ fault. fault ≡ MakingFault.NoMemory) }
 {
-    let front = first_payloads(alloc, number, &payloads)?;
+    let front = A::earlier(alloc, number, &payloads)?;
     match A::reopen(alloc, &front) {
         Ok(opened) => with_snapshot(alloc, number, &opened.session, payloads),
         Err(fault) => Err(unmade(fault)),
     }
-}
-
-// The first payloads, as many as the number says, or all.
-fn first_payloads(alloc: Global, number: usize, payloads: &Payloads) -> Result<Payloads, AllocError>
-    ensures { IfOk result (λ front. front ≡ take number payloads.now) }
-{
-    let records = payloads.as_slice();
-    let count = number.min(records.len());
-    let mut front = Vec::new(alloc);
-    for next in 0..count {
-        front.push(same_bytes(alloc, records[next].as_slice())?)?;
-    }
-    Ok(Payloads::from_vec(front))
 }
 
 /// The same bytes, in a value of their own. The only error is running out of memory.
@@ -166,7 +153,7 @@ pub(crate) fn same_bytes(alloc: Global, bytes: &[u8]) -> Result<Bytes, AllocErro
     Ok(Bytes::from_vec(bytes.to_vec(alloc)?))
 }
 
-// The payloads, and the snapshot of the state of a session that the first of them stand for.
+// The payloads, and the snapshot of the state of a session, to which the store goes back.
 fn with_snapshot<A: RemadeSession>(
     alloc: Global,
     number: usize,
@@ -174,10 +161,10 @@ fn with_snapshot<A: RemadeSession>(
     payloads: Payloads,
 ) -> Result<StoreText, MakingFault>
     ensures { (t : A.State) (version due : Option (List ℕ)) → A.stands_for payloads ≡ Ok (t, version)
-        → A.stands_for (take number payloads) ≡ Ok (A.state session.now, due)
-        → IsAllowed A.StoredSession (Remaking.Back number)
+        → A.stands_for (A.earlier number payloads) ≡ Ok (A.state session.now, due)
+        → IsAllowed (Remaking.Back number)
         → MatchResult result
-        (λ text. IsTakenBack A.StoredSession number payloads t version text.payloads text.lines.items)
+        (λ text. IsTakenBack A.StoredSession A.earlier number payloads t version text.payloads text.lines.items)
         (λ fault. fault ≡ MakingFault.NoMemory) }
 {
     let made = with_one_more(payloads.into_vec(), session.snapshot(alloc)?)?;

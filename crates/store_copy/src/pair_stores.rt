@@ -1,11 +1,11 @@
-//! What the store of a pair of documents begins with that is made anew.
+//! What the store of a pair of documents that is made anew keeps of its payloads.
 ghost use Rattle.std.specs.Prelude.{◌≡◌, IfOk, take};
 ghost use Rattle.store_records.specs.StoredLens.{stored_lens};
 ghost use Rattle.store_session.specs.StoredStates.{version_for};
 ghost use Rattle.store_copy.specs.PairBeginnings.{pair_beginning, version_due};
 
 use crate::new_payloads::same_bytes;
-use crate::session::{EarlierSession, RemadeSession};
+use crate::session::RemadeSession;
 use lens_io::Payloads;
 use std::alloc::{AllocError, Global};
 use store_records::{RecordFault, stored_lens, version_payload};
@@ -16,26 +16,43 @@ use texts::Bytes;
 const FIRST_VERSION: u64 = 1;
 
 impl RemadeSession for StoreSession {
+    ghost use Rattle.std.specs.Prelude.{take};
+    ghost use Rattle.store_copy.specs.EarlierLaws as going_back;
     ghost use Rattle.store_copy.specs.PairBeginnings as pairs;
     ghost use Rattle.store_copy.specs.PairLaws as laws;
 
     ghost beginning = { pairs.pair_beginning };
 
+    ghost earlier = { take };
+
     ghost snapshot_begins = { laws.snapshot_begins };
 
     ghost snapshot_forgets = { laws.snapshot_forgets };
 
+    ghost earlier_stands = { going_back.earlier_stands };
+
+    ghost earlier_snapshot_stands = { going_back.earlier_snapshot_stands };
+
     fn beginning(alloc: Global, payloads: &Payloads) -> Result<Vec<Bytes>, AllocError> {
         first_records(alloc, payloads)
     }
+
+    fn earlier(alloc: Global, number: usize, payloads: &Payloads) -> Result<Payloads, AllocError> {
+        first_payloads(alloc, number, payloads)
+    }
 }
 
-impl EarlierSession for StoreSession {
-    ghost use Rattle.store_copy.specs.EarlierLaws as laws;
-
-    ghost earlier_stands = { laws.earlier_stands };
-
-    ghost earlier_snapshot_stands = { laws.earlier_snapshot_stands };
+// The first payloads, as many as the number says, or all.
+fn first_payloads(alloc: Global, number: usize, payloads: &Payloads) -> Result<Payloads, AllocError>
+    ensures { IfOk result (λ front. front ≡ take number payloads.now) }
+{
+    let records = payloads.as_slice();
+    let count = number.min(records.len());
+    let mut front = Vec::new(alloc);
+    for next in 0..count {
+        front.push(same_bytes(alloc, records[next].as_slice())?)?;
+    }
+    Ok(Payloads::from_vec(front))
 }
 
 // The first payload, and the version record if that payload says version 1.

@@ -13,7 +13,7 @@ ghost use Rattle.store_copy.specs.Remakes.{Remakes};
 ghost use Rattle.store_copy.specs.Unmade.{unopened_by};
 
 use crate::new_payloads::{Remaking, new_payloads};
-use crate::session::{EarlierSession, RemadeSession};
+use crate::session::RemadeSession;
 use command_ends::Status;
 use lens_io::{Disk, Sink};
 use std::alloc::Global;
@@ -77,7 +77,7 @@ pub fn copy<A: RemadeSession + Drop, K: Sink, D: Disk, E: Disk>(
 ///   store, and no crash leaves anything new on it.
 /// - `statuses`: it ends by one of five statuses, whatever the disks hold. `sink_fault`, `disk_fault`: these come only
 ///   if that device failed.
-pub fn back<A: EarlierSession + Drop, K: Sink, D: Disk, E: Disk>(
+pub fn back<A: RemadeSession + Drop, K: Sink, D: Disk, E: Disk>(
     alloc: Global,
     number: usize,
     from: &mut D,
@@ -87,7 +87,7 @@ pub fn back<A: EarlierSession + Drop, K: Sink, D: Disk, E: Disk>(
     requires { 0 < number }
     ensures remakes { Remakes K.Sink D.Disk E.Disk (sink.old, from.old, to.old)
         (sink.new, from.new, to.new) result
-        A.StoredSession (IsTakenBack A.StoredSession number) }
+        A.StoredSession (IsTakenBack A.StoredSession A.earlier number) }
     ensures statuses { IsStatusAmong quiet_statuses result }
     ensures sink_fault { result ≡ Status.SinkFault → SinkFailed K.Sink sink.old sink.new }
     ensures disk_fault { result ≡ Status.DiskFault
@@ -104,9 +104,9 @@ fn remake<A: RemadeSession + Drop, K: Sink, D: Disk, E: Disk>(
     to: &mut E,
     sink: &mut K,
 ) -> Status
-    ensures remakes { IsAllowed A.StoredSession way
+    ensures remakes { IsAllowed way
         → Remakes K.Sink D.Disk E.Disk (sink.old, from.old, to.old) (sink.new, from.new, to.new) result
-        A.StoredSession (IsPlanned A.StoredSession A.beginning way) }
+        A.StoredSession (IsPlanned A.StoredSession A.beginning A.earlier way) }
     ensures statuses { IsStatusAmong quiet_statuses result }
     ensures sink_fault { result ≡ Status.SinkFault → SinkFailed K.Sink sink.old sink.new }
     ensures disk_fault { result ≡ Status.DiskFault
@@ -128,14 +128,14 @@ fn remake_empty<A: RemadeSession + Drop, K: Sink, D: Disk, E: Disk>(
     sink: &mut K,
 ) -> Status
     requires empty { IfSome (E.content to.old) (λ bytes. length bytes ≡ 0) }
-    ensures ends { IsAllowed A.StoredSession way → (store : Store D.Disk A.StoredSession from.old)
+    ensures ends { IsAllowed way → (store : Store D.Disk A.StoredSession from.old)
         → EndsRemade K.Sink D.Disk E.Disk (sink.old, from.old, to.old)
         (sink.new, from.new, to.new) result
-        (IsPlanned A.StoredSession A.beginning way store.payloads store.state store.version) }
-    ensures room { IsAllowed A.StoredSession way → (store : Store D.Disk A.StoredSession from.old)
+        (IsPlanned A.StoredSession A.beginning A.earlier way store.payloads store.state store.version) }
+    ensures room { IsAllowed way → (store : Store D.Disk A.StoredSession from.old)
         → result ≡ Status.DiskFault
         → IsNone (D.room from.old) ⊎ IfSome (E.room to.old) (PlanHasNoRoom
-        (IsPlanned A.StoredSession A.beginning way store.payloads store.state store.version)) }
+        (IsPlanned A.StoredSession A.beginning A.earlier way store.payloads store.state store.version)) }
     ensures refused { (other : RefusedStore D.Disk A.StoredSession from.old)
         → EndsUnmade K.Sink D.Disk E.Disk (sink.old, from.old, to.old)
         (sink.new, from.new, to.new) result other.reason }
@@ -157,9 +157,9 @@ fn read_text<A: RemadeSession + Drop, D: Disk>(
     way: Remaking,
     disk: &mut D,
 ) -> Result<StoreText, OpenFault>
-    ensures made { IsAllowed A.StoredSession way
+    ensures made { IsAllowed way
         → (store : Store D.Disk A.StoredSession disk.old) → MatchResult result
-        (λ text. IsPlanned A.StoredSession A.beginning way store.payloads store.state store.version
+        (λ text. IsPlanned A.StoredSession A.beginning A.earlier way store.payloads store.state store.version
         text.payloads text.lines.items)
         FailsToOpen }
     ensures refused { (other : RefusedStore D.Disk A.StoredSession disk.old)

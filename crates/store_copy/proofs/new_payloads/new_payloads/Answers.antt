@@ -13,7 +13,7 @@ returns-in-Ok-clause-made g c =
     let opened = c.in-Ok.opened in
     λ t version stands allowed.
     opened_same (session.stands_for payloads)
-    (λ u v. MatchResult c.text_of.result (λ text. IsPlanned session g.A.RemadeSession.beginning c.args.way payloads u v text.payloads text.lines.items) (λ fault. fault ≡ NoMemory))
+    (λ u v. MatchResult c.text_of.result (λ text. IsPlanned session g.A.RemadeSession.beginning g.A.RemadeSession.earlier c.args.way payloads u v text.payloads text.lines.items) (λ fault. fault ≡ NoMemory))
     (session.state opened.session) t opened.version version c.in-Ok.ensures.stands stands (c.text_of.ensures opened.version c.in-Ok.ensures.stands allowed)
 
 pub returns-in-Ok-clause-refused : goal.returns-in-Ok-clause-refused

@@ -14,6 +14,6 @@ pub returns-in-Err : goal.returns-in-Err
 returns-in-Err g c =
     let session = g.A.StoredSession in
     λ t version stands allowed.
-    let earlier = allowed.1 c.args.number c.args.payloads t version allowed.0 stands in
+    let earlier = g.met.A.RemadeSession.earlier_stands c.args.number c.args.payloads t version allowed stands in
     c.unmade.ensures
     ∙ unmade_memory (session.stands_for c.in_ok-front.front) (earlier.0, earlier.1) (ap session.stands_for c.in_ok-front.ensures ∙ earlier.2) c.in-Err.fault c.in-Err.ensures.stands

@@ -10,7 +10,7 @@ returns-in-Compact g c =
     let state = session.state c.args.session.now in
     λ version stands allowed.
     subst
-    (λ (way : Remaking). MatchResult c.compacted.result (λ text. IsPlanned session g.A.RemadeSession.beginning way c.args.payloads state version text.payloads text.lines.items) (λ fault. fault ≡ NoMemory))
+    (λ (way : Remaking). MatchResult c.compacted.result (λ text. IsPlanned session g.A.RemadeSession.beginning g.A.RemadeSession.earlier way c.args.payloads state version text.payloads text.lines.items) (λ fault. fault ≡ NoMemory))
     (sym c.in-Compact.is) (c.compacted.ensures version stands)
 
 pub returns-in-Copy : goal.returns-in-Copy
@@ -19,7 +19,7 @@ returns-in-Copy g c =
     let state = session.state c.args.session.now in
     λ version stands allowed.
     subst
-    (λ (way : Remaking). MatchResult c.copied.result (λ text. IsPlanned session g.A.RemadeSession.beginning way c.args.payloads state version text.payloads text.lines.items) (λ fault. fault ≡ NoMemory))
+    (λ (way : Remaking). MatchResult c.copied.result (λ text. IsPlanned session g.A.RemadeSession.beginning g.A.RemadeSession.earlier way c.args.payloads state version text.payloads text.lines.items) (λ fault. fault ≡ NoMemory))
     (sym c.in-Copy.is) (c.copied.ensures state version stands)
 
 pub returns-in-Back : goal.returns-in-Back
@@ -28,5 +28,5 @@ returns-in-Back g c =
     let state = session.state c.args.session.now in
     λ version stands allowed.
     subst
-    (λ (way : Remaking). MatchResult c.taken_back.result (λ text. IsPlanned session g.A.RemadeSession.beginning way c.args.payloads state version text.payloads text.lines.items) (λ fault. fault ≡ NoMemory))
-    (sym c.in-Back.is) (c.taken_back.ensures state version stands (subst (IsAllowed session) c.in-Back.is allowed))
+    (λ (way : Remaking). MatchResult c.taken_back.result (λ text. IsPlanned session g.A.RemadeSession.beginning g.A.RemadeSession.earlier way c.args.payloads state version text.payloads text.lines.items) (λ fault. fault ≡ NoMemory))
+    (sym c.in-Back.is) (c.taken_back.ensures state version stands (subst (IsAllowed) c.in-Back.is allowed))

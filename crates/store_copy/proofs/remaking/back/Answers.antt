@@ -1,4 +1,4 @@
 use Rattle.store_copy.proofs.remaking.back.Goals as goal
 
 pub returns-clause-remakes : goal.returns-clause-remakes
-returns-clause-remakes g c = c.remake.ensures.remakes (c.requires, g.met.A.EarlierSession.earlier_stands, g.met.A.EarlierSession.earlier_snapshot_stands)
+returns-clause-remakes g c = c.remake.ensures.remakes c.requires

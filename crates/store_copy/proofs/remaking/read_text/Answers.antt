@@ -10,12 +10,13 @@ pub returns-in-Ok-clause-made : goal.returns-in-Ok-clause-made
 returns-in-Ok-clause-made g c =
     let session = g.A.StoredSession in
     let beginning = g.A.RemadeSession.beginning in
+    let earlier = g.A.RemadeSession.earlier in
     λ allowed store.
     let same = same_payloads store.bytes c.in-Ok.read.payloads store.payloads (c.in-Ok.ensures.read store.bytes store.told).holds store.holds in
-    text_made c.new_payloads.result c.opened_text.result (λ text. IsPlanned session beginning c.args.way store.payloads store.state store.version text.payloads text.lines.items)
+    text_made c.new_payloads.result c.opened_text.result (λ text. IsPlanned session beginning earlier c.args.way store.payloads store.state store.version text.payloads text.lines.items)
     c.opened_text.ensures
     (subst
-    (λ (ps : List (List ℕ)). MatchResult c.new_payloads.result (λ text. IsPlanned session beginning c.args.way ps store.state store.version text.payloads text.lines.items) (λ fault. fault ≡ NoMemory))
+    (λ (ps : List (List ℕ)). MatchResult c.new_payloads.result (λ text. IsPlanned session beginning earlier c.args.way ps store.state store.version text.payloads text.lines.items) (λ fault. fault ≡ NoMemory))
     same (c.new_payloads.ensures.made store.state store.version (ap session.stands_for same ∙ store.stands) allowed))
 
 pub returns-in-Ok-clause-refused : goal.returns-in-Ok-clause-refused

@@ -19,6 +19,7 @@ returns-in-Ok-eq0-clause-remakes g c =
     let to = g.E.Disk in
     let session = g.A.StoredSession in
     let beginning = g.A.RemadeSession.beginning in
+    let earlier = g.A.RemadeSession.earlier in
     let k = c.args.sink.now in
     let k' = c.remake_empty.new.sink in
     let d = c.args.from.now in
@@ -32,11 +33,11 @@ returns-in-Ok-eq0-clause-remakes g c =
     λ allowed.
     record {
       of_store = λ store.
-          store_remade sink from to k k' d d' status e e' (IsPlanned session beginning c.args.way store.payloads store.state store.version)
-          (remade_behind sink from to k k' d d' status e e' e1 u c.len.ensures.room (IsPlanned session beginning c.args.way store.payloads store.state store.version) (r.ends allowed store))
+          store_remade sink from to k k' d d' status e e' (IsPlanned session beginning earlier c.args.way store.payloads store.state store.version)
+          (remade_behind sink from to k k' d d' status e e' e1 u c.len.ensures.room (IsPlanned session beginning earlier c.args.way store.payloads store.state store.version) (r.ends allowed store))
           (λ is. elim (r.room allowed store is) [
             | inl x ↦ inl x
-            | inr x ↦ inr (subst (λ (o : Option ℕ). IfSome o (PlanHasNoRoom (IsPlanned session beginning c.args.way store.payloads store.state store.version))) c.len.ensures.room x)
+            | inr x ↦ inr (subst (λ (o : Option ℕ). IfSome o (PlanHasNoRoom (IsPlanned session beginning earlier c.args.way store.payloads store.state store.version))) c.len.ensures.room x)
           ])
           r.sink_fault
           (λ is. elim (r.disk_fault is) [ inl x ↦ inl x | inr x ↦ inr (increased_since (to.faults e) (to.faults e1) (to.faults e') c.len.ensures.cause.later x) ]);
@@ -77,7 +78,7 @@ returns-in-Ok-clause-remakes g c =
     λ allowed.
     record {
       of_store = λ store.
-          store_remade sink from to k k' d d status e e1 (IsPlanned session g.A.RemadeSession.beginning c.args.way store.payloads store.state store.version) (inl taken)
+          store_remade sink from to k k' d d status e e1 (IsPlanned session g.A.RemadeSession.beginning g.A.RemadeSession.earlier c.args.way store.payloads store.state store.version) (inl taken)
           (λ is. absurd (never_at_disk sink k k' status given is)) (other_failed sink k k' status c.give_line.ensures.sink_fault) (λ is. absurd (never_at_disk sink k k' status given is));
       refuses = λ other. inl taken;
       exists = keeps_given sink from to k k' d d status e e1 u given;
@@ -112,7 +113,7 @@ returns-in-Err-clause-remakes g c =
     λ allowed.
     record {
       of_store = λ store.
-          store_remade sink from to k k d d DiskFault e e1 (IsPlanned session g.A.RemadeSession.beginning c.args.way store.payloads store.state store.version) (inr (inl fails))
+          store_remade sink from to k k d d DiskFault e e1 (IsPlanned session g.A.RemadeSession.beginning g.A.RemadeSession.earlier c.args.way store.payloads store.state store.version) (inr (inl fails))
           (λ is. inr (room_unknown (to.room e) _ c.in-Err.ensures.sure)) (λ is. cc) (λ is. inr c.in-Err.ensures.cause.failed);
       refuses = λ other. inr (inl fails);
       exists = keeps_failed sink from to k d e e1 u;

@@ -13,14 +13,14 @@ returns-in-Ok-clause-ends g c =
     let text = c.in-Ok.text in
     λ allowed store.
     remade g.K.Sink g.D.Disk g.E.Disk c.args.sink.now c.make_store.new.sink c.args.from.now c.read_text.new.disk c.make_store.result c.args.to.now c.make_store.new.disk
-    (IsPlanned g.A.StoredSession g.A.RemadeSession.beginning c.args.way store.payloads store.state store.version) text.payloads text.lines.items (c.in-Ok.ensures.made allowed store) c.requires.empty
+    (IsPlanned g.A.StoredSession g.A.RemadeSession.beginning g.A.RemadeSession.earlier c.args.way store.payloads store.state store.version) text.payloads text.lines.items (c.in-Ok.ensures.made allowed store) c.requires.empty
     (rw c.deref.ensures.value at c.make_store.ensures.ends)
 
 pub returns-in-Ok-clause-room : goal.returns-in-Ok-clause-room
 returns-in-Ok-clause-room g c =
     let text = c.in-Ok.text in
     λ allowed store is.
-    inr (no_room_for_plan (g.E.Disk.room c.args.to.now) (IsPlanned g.A.StoredSession g.A.RemadeSession.beginning c.args.way store.payloads store.state store.version) text.payloads text.lines.items
+    inr (no_room_for_plan (g.E.Disk.room c.args.to.now) (IsPlanned g.A.StoredSession g.A.RemadeSession.beginning g.A.RemadeSession.earlier c.args.way store.payloads store.state store.version) text.payloads text.lines.items
     (c.in-Ok.ensures.made allowed store) (c.make_store.ensures.room is))
 
 pub returns-in-Ok-clause-refused : goal.returns-in-Ok-clause-refused

@@ -1,5 +1,5 @@
 use Rattle.std.proofs.Common.{◌≡◌, take}
-use Rattle.store_copy.proofs.new_payloads.first_payloads.Given as goal
+use Rattle.store_copy.proofs.pair_stores.first_payloads.Given as goal
 
 -- the payloads up to this one
 abbrev pub invariant-loop-next : goal.invariant-loop-next
