@@ -7,9 +7,10 @@
 
 use case_files::{Commands, run_files};
 use command_ends::Status;
+use hub_session::HubSession;
 use lens_io::{MemDisk, MemSink, MemSource};
 use std::alloc::{AllocError, Global};
-use store_copy::{back, compact, copy};
+use store_copy::{RemadeSession, back, compact, copy};
 use store_run::{show, verify};
 use store_session::StoreSession;
 use texts::Bytes;
@@ -18,7 +19,8 @@ fn main(rt: HostRuntime) -> anyhow::Result<()> {
     run_files::<Copies>(&rt)
 }
 
-// The commands of a file: `compact`, `copy` and `back N`, and `show` and `verify` of the store that was made.
+// The commands of a file: `compact`, `copy` and `back N`, and `show` and `verify` of the store that was made. Behind the
+// word `hub` they are of the store of a hub.
 struct Copies;
 
 impl Commands for Copies {
@@ -29,29 +31,43 @@ impl Commands for Copies {
         sink: &mut MemSink,
         disk: &mut MemDisk,
     ) -> u8 {
-        let word = if words.len() > 1 {
-            words[1].as_str()
+        let status = if word_at(words, 1) == "hub" {
+            command::<HubSession>(alloc, word_at(words, 2), word_at(words, 3), sink, disk)
         } else {
-            ""
-        };
-        let other = if words.len() > 2 {
-            words[2].as_str()
-        } else {
-            ""
-        };
-        let status = if word == "show" {
-            show::<StoreSession, MemSink, MemDisk>(alloc, sink, disk)
-        } else if word == "verify" {
-            verify::<StoreSession, MemSink, MemDisk>(alloc, sink, disk)
-        } else {
-            remake(alloc, word, other, sink, disk)
+            command::<StoreSession>(alloc, word_at(words, 1), word_at(words, 2), sink, disk)
         };
         status.code()
     }
 }
 
+// The word at this place, or an empty one.
+fn word_at(words: &[String], place: usize) -> &str {
+    if place < words.len() {
+        words[place].as_str()
+    } else {
+        ""
+    }
+}
+
+// The command of a word, with the word behind it.
+fn command<A: RemadeSession + Drop>(
+    alloc: Global,
+    word: &str,
+    other: &str,
+    sink: &mut MemSink,
+    disk: &mut MemDisk,
+) -> Status {
+    if word == "show" {
+        show::<A, MemSink, MemDisk>(alloc, sink, disk)
+    } else if word == "verify" {
+        verify::<A, MemSink, MemDisk>(alloc, sink, disk)
+    } else {
+        remake::<A>(alloc, word, other, sink, disk)
+    }
+}
+
 // Makes a store anew on another disk. The store that was made comes in the place of the one from before.
-fn remake(
+fn remake<A: RemadeSession + Drop>(
     alloc: Global,
     word: &str,
     other: &str,
@@ -62,11 +78,11 @@ fn remake(
         return Status::NoMemory;
     };
     let status = if word == "compact" {
-        compact::<StoreSession, MemSink, MemDisk, MemDisk>(alloc, disk, &mut made, sink)
+        compact::<A, MemSink, MemDisk, MemDisk>(alloc, disk, &mut made, sink)
     } else if word == "copy" {
-        copy::<StoreSession, MemSink, MemDisk, MemDisk>(alloc, disk, &mut made, sink)
+        copy::<A, MemSink, MemDisk, MemDisk>(alloc, disk, &mut made, sink)
     } else if word == "back" {
-        go_back(alloc, other, disk, &mut made, sink)
+        go_back::<A>(alloc, other, disk, &mut made, sink)
     } else {
         Status::Usage
     };
@@ -77,7 +93,7 @@ fn remake(
 }
 
 // Goes back to the state after the record with the number of this text.
-fn go_back(
+fn go_back<A: RemadeSession + Drop>(
     alloc: Global,
     number: &str,
     disk: &mut MemDisk,
@@ -86,7 +102,7 @@ fn go_back(
 ) -> Status {
     match number.parse::<usize>() {
         Ok(number) if number > 0 => {
-            back::<StoreSession, MemSink, MemDisk, MemDisk>(alloc, number, disk, made, sink)
+            back::<A, MemSink, MemDisk, MemDisk>(alloc, number, disk, made, sink)
         }
         _ => Status::Usage,
     }

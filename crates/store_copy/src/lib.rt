@@ -10,6 +10,7 @@
 #![tactic(auto)]
 
 mod hub_stores;
+pub mod laws;
 mod lines;
 mod new_payloads;
 mod pair_stores;

@@ -70,7 +70,7 @@ pub fn copy<A: RemadeSession + Drop, K: Sink, D: Disk, E: Disk>(
 
 /// Reads a store, and makes a store that goes back on another disk, which has to be empty: the same records, and behind
 /// them a snapshot of the state after the record with this number. If there are fewer records, it is that of the last
-/// one.
+/// one. A view that was added to a hub later is in the snapshot too, with what its lens makes of the earlier document.
 ///
 /// - `remakes`: after `Done` the new store has the same payloads and the snapshot, and represents the earlier state. So
 ///   does each image of it that a crash may leave. The line `back N` was written. Nothing is written to the disk of the
