@@ -1,0 +1,2 @@
+pub mod StoreEnds
+pub mod StoreOrders
