@@ -1,2 +1,3 @@
+pub mod Renames
 pub mod StoreEnds
 pub mod StoreOrders

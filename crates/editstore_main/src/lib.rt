@@ -4,9 +4,10 @@
 //! record of what is promised, `Remakes` of store_copy, whose calls it makes. specs/StoreOrders.antt has the words of
 //! the commands.
 //!
-//! [`run_program`] is the same over the real output and the real files.
+//! [`run_program`] is the same over the real output and the real files. [`laws`] say what a caller may do after it.
 #![tactic(auto)]
 
+pub mod laws;
 mod real;
 mod top;
 mod usage;

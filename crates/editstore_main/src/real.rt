@@ -8,9 +8,10 @@ use std::io;
 /// The program: the top call with the words of the command line, over standard output and two files.
 ///
 /// The store is the file `editlens.store` of the current folder, and of a hub `edithub.store`. It is opened for reading.
-/// The new store is the file of the same name in the folder `.editstore` of the current folder, which has to be there.
-/// Its file is made by the first write, and locked as the programs lock a store that they write. A caller that puts it
-/// in place of the store renames it, after `Done`, while it holds the lock of the current folder.
+/// The new store is the file of the same name in the folder `.editlens.new` of the current folder. The program makes no
+/// folder, and ends with `DiskFault` if there is none. The file is made by the first write, and synced with its folder.
+/// It is locked as the programs lock a store that they write. A caller that holds the lock of the current folder may
+/// rename it to the name of the store after `Done`.
 ///
 /// The status is that of [`editstore`], or `NoMemory` if memory ran out at the words. What the streams and the files
 /// give and take is not known to the prover, so no clause speaks of it; nothing is written to standard error.
@@ -29,8 +30,8 @@ pub fn run_program(rt: &HostRuntime) -> Status {
 // The file of the store, and that of the new one.
 fn files_of(is_hub: bool) -> (&'static str, &'static str) {
     if is_hub {
-        ("edithub.store", ".editstore/edithub.store")
+        ("edithub.store", ".editlens.new/edithub.store")
     } else {
-        ("editlens.store", ".editstore/editlens.store")
+        ("editlens.store", ".editlens.new/editlens.store")
     }
 }
