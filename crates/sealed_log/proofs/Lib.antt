@@ -1,3 +1,4 @@
+mod Examples
 pub mod PayloadPlaces
 pub mod OpenedRecords
 pub mod SealedLists

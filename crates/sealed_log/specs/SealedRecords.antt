@@ -1,7 +1,7 @@
 -- A payload with its seal, as it is stored. The main definitions are `sealed_record` and `opened_record`.
 --
--- Record 2 with the payload `["x"]` is stored as `{"seal":"0a1b2c3d","number":2,"record":["x"]}`, with the digits of its
--- seal. So it is one line of JSON if its payload is.
+-- Record 2 with the payload `["x"]` is stored as `{"seal":"0a1b2c3d","number":2,"record":["x"]}`, with the digits of
+-- its seal. So it is one line of JSON if its payload is.
 use Rattle.std.specs.Prelude.{ℕ, ◌+◌, ◌-◌, ◌/◌, ◌%◌, ◌^◌, if◌then◌else◌, List, [], ◌∷◌, ◌++◌, length, take, drop}
 use Rattle.std.specs.Prelude.{codes, decimal, bytes_eq, Some, None}
 use Rattle.std.specs.declared.option.Option.{Option}

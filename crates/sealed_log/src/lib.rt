@@ -1,7 +1,12 @@
 //! A log whose records carry seals, which notice what was changed, moved or left out.
 //!
-//! The seal of a record is a checksum of its payload, of its number and of the seal before. The laws here say which
-//! changes are noticed for certain.
+//! Each record of the log below is the caller's payload with its number and a seal: a checksum of the seal before, of
+//! the number and of all that is behind the seal. How a record is stored is `sealed_record` in specs/SealedRecords, how
+//! a list is `sealed` in specs/SealedLists, and what a disk has to do with a log is `SealedStands` in specs/SealedLogs.
+//!
+//! The laws here say what is noticed for certain: a change within 32 adjacent bits of a record, and each record at
+//! another place than its own. Records that are left out at the end are not noticed. Whoever changes records on purpose
+//! can seal them as well, so seals are no protection against them.
 #![tactic(auto)]
 
 mod laws;
