@@ -62,3 +62,7 @@ pub same-done : (bs : List Bridge) (n : ℕ) (ds : DocTrees) → map bridge_tree
 same-done bs n ds h all = ap bridges_of (h ∙ ap (λ (k : ℕ). replicate k same) all) ∙ same-all ds
 
 pub ruleset same_rules = (bridges_tree-out, same-more, same-done)
+
+-- ---- after a plan of a near list
+
+pub ruleset after_rules = (bridges_tree-out)

@@ -4,25 +4,30 @@
 //! value that the next one meets.
 ghost use Rattle.std.specs.Prelude.{◌≡◌, ◌<◌, Ok, IfOk, MatchResult, true, length};
 ghost use Rattle.std.specs.Str.{is_utf8};
-ghost use Rattle.doc_values.specs.Documents.{doc_tree, docs_tree, doc_list, rec, alt};
+ghost use Rattle.doc_values.specs.Documents.{doc_tree, docs_tree, doc_list, rec, alt, hold};
 ghost use Rattle.doc_values.specs.Types.{ty_tree, is_well_formed};
 ghost use Rattle.doc_values.specs.Typing.{has};
 ghost use Rattle.edit_module.specs.Views.{primitive_tree, word_tree};
-ghost use Rattle.edit_module.specs.Action.{act, act_primitive, inner, put_at};
+ghost use Rattle.hold_shapes.specs.Shapes.{place_of};
+ghost use Rattle.edit_module.specs.Action.{act, act_primitive, act_at_place, inner, put_at, doc_at};
+ghost use Rattle.edit_module.specs.Containers.{IsHeld};
 ghost use Rattle.edit_module.specs.Refusals.{IsRefusal, IsPrimitiveRefusal};
-ghost use Rattle.edit_module.specs.Words.{at, stay, splice};
+ghost use Rattle.edit_module.specs.Words.{at, stay, splice, modify, shape};
 ghost use Rattle.bridge_core.specs.Bridges.{bridge_tree, bridges_tree, same, parts, put_bridge_at};
 ghost use Rattle.bridge_core.specs.Bridged.{bridge, bridge_primitive, bridge_set, bridge_splice, with_splice};
-ghost use Rattle.bridge_core.specs.Bridged.{bridge_stay, bridge_switch, parts_of, arm_of};
+ghost use Rattle.bridge_core.specs.Bridged.{bridge_stay, bridge_switch, parts_of, arm_of, for_found, bridge_item};
+ghost use Rattle.bridge_core.specs.Bridged.{linked_of, with_inner};
 ghost use Rattle.bridge_core.specs.Laws.{SpansValue};
 
 use crate::bridge::{Bridge, Bridges};
 use crate::laws::{a_bridge_spans, a_text_is_utf8};
+use crate::list_bridging::{after_shape, inner_of, linked_of, with_inner};
 use bridge_texts::TextBridge;
 use doc_values::{Doc, Docs, Ty};
-use edit_module::action::{self, field_of, tag_of};
+use edit_module::action::{self, field_of, item_of, tag_of};
 use edit_module::word::{Primitive, Word};
 use edit_module::{ActFault, Cause, PrimitiveFault};
+use hold_shapes::{Place, Shape, ShapeEdit};
 use std::alloc::{AllocError, Global};
 use std::rc::Rc;
 use texts::{Name, Str, Twin};
@@ -153,7 +158,8 @@ fn step(
             let next = after_switch(alloc, before, from, to)?;
             acted(alloc, ty, primitive, doc, next)
         }
-        Primitive::Mod(..) | Primitive::Shape(_) => acted(alloc, ty, primitive, doc, Bridge::Lost),
+        Primitive::Mod(place, word) => at_place(alloc, ty, primitive, place, word, doc, before),
+        Primitive::Shape(edit) => shaped(alloc, ty, primitive, edit, doc, before),
         Primitive::At(name, word) => at_field(alloc, ty, name, word, doc, before),
         Primitive::Stay(tag, word) => at_tag(alloc, ty, tag, word, doc, before),
     }
@@ -454,4 +460,138 @@ fn after_stay(
         Bridge::Away(..) => before.twin(alloc),
         _ => Bridge::with_tag(alloc, tag, inner),
     }
+}
+
+// ---- containers
+
+// Acts on the content at a place of a container.
+#[cycle(walk)]
+#[tactic(auto, using(crate::proofs::Walks::place_rules))]
+fn at_place(
+    alloc: Global,
+    ty: &Ty,
+    primitive: &Primitive,
+    place: &Place,
+    word: &Word,
+    doc: &Doc,
+    before: &Bridge,
+) -> Result<Made, PrimitiveFault>
+    requires well_formed { is_well_formed (ty_tree ty.now) ≡ true }
+    requires typed { has (ty_tree ty.now) (doc_tree doc.now) ≡ true }
+    requires is { primitive_tree primitive.now ≡ modify place.now (word_tree word.now) }
+    ensures value { MatchResult result
+        (λ m. act_primitive (ty_tree ty.now) (modify place.now (word_tree word.now)) (doc_tree doc.now)
+        ≡ Ok (doc_tree m.value))
+        (λ fault. IsPrimitiveRefusal
+        (act_primitive (ty_tree ty.now) (modify place.now (word_tree word.now)) (doc_tree doc.now)) fault) }
+    ensures bridge { IfOk result (λ m. bridge_tree m.bridge ≡ bridge_primitive (ty_tree ty.now)
+        (modify place.now (word_tree word.now)) (doc_tree doc.now) (bridge_tree before.now)) }
+{
+    let Ty::List(inner) = ty else {
+        return acted(alloc, ty, primitive, doc, Bridge::Lost);
+    };
+    let Place::Index(_) = place else {
+        return acted(alloc, ty, primitive, doc, Bridge::Lost);
+    };
+    let Doc::Hold(shape, docs) = doc else {
+        return acted(alloc, ty, primitive, doc, Bridge::Lost);
+    };
+    at_item(alloc, inner, place, word, shape, docs, before)
+}
+
+// Acts on an item of a list.
+#[cycle(walk)]
+fn at_item(
+    alloc: Global,
+    ty: &Ty,
+    place: &Place,
+    word: &Word,
+    shape: &Shape,
+    docs: &Docs,
+    before: &Bridge,
+) -> Result<Made, PrimitiveFault>
+    requires well_formed { is_well_formed (ty_tree ty.now) ≡ true }
+    requires held { IsHeld (ty_tree ty.now) shape.now (docs_tree docs.now) }
+    ensures value { MatchResult result
+        (λ m. act_at_place (λ v. act (ty_tree ty.now) (word_tree word.now) v) shape.now (docs_tree docs.now) place.now
+        ≡ Ok (doc_tree m.value))
+        (λ fault. IsPrimitiveRefusal
+        (act_at_place (λ v. act (ty_tree ty.now) (word_tree word.now) v) shape.now (docs_tree docs.now) place.now)
+        fault) }
+    ensures bridge { IfOk result (λ m. bridge_tree m.bridge
+        ≡ for_found (bridge_tree before.now) (place_of shape.now place.now)
+        (λ y. bridge_item (linked_of (bridge_tree before.now) (docs_tree docs.now)) y
+        (λ c. bridge (ty_tree ty.now) (word_tree word.now) (doc_at (docs_tree docs.now) y) c))) }
+{
+    let Some(at) = item_of(place, ty, shape, docs) else {
+        return Err(PrimitiveFault::Fails(Cause::Place));
+    };
+    let links = linked_of(alloc, before, docs)?;
+    let old = inner_of(alloc, &links, at)?;
+    match inside(alloc, ty, word, docs.get(at), &old) {
+        Ok(made) => Ok(with_item(alloc, shape, docs, &links, at, made)?),
+        Err(fault) => Err(fault),
+    }
+}
+
+// A list with another item at a place, and the bridge to it.
+fn with_item(
+    alloc: Global,
+    shape: &Shape,
+    docs: &Docs,
+    links: &Bridge,
+    place: usize,
+    made: Made,
+) -> Result<Made, AllocError>
+    requires { place < length (doc_list (docs_tree docs.now)) }
+    ensures value { IfOk result (λ m.
+        doc_tree m.value ≡ hold shape.now (put_at (docs_tree docs.now) place (doc_tree made.value))) }
+    ensures bridge { IfOk result (λ m.
+        bridge_tree m.bridge ≡ with_inner (bridge_tree links.now) place (bridge_tree made.bridge)) }
+{
+    let next = with_inner(alloc, links, place, made.bridge);
+    both(hold_with(alloc, shape, docs, place, made.value), next)
+}
+
+fn hold_with(
+    alloc: Global,
+    shape: &Shape,
+    docs: &Docs,
+    place: usize,
+    next: Doc,
+) -> Result<Doc, AllocError>
+    requires { place < length (doc_list (docs_tree docs.now)) }
+    ensures { IfOk result (λ d. doc_tree d ≡ hold shape.now (put_at (docs_tree docs.now) place (doc_tree next))) }
+{
+    let mut docs = docs.twin(alloc)?;
+    docs.set(alloc, place, next)?;
+    Ok(Doc::Hold(shape.twin(alloc)?, docs))
+}
+
+// Edits the shape of a container.
+fn shaped(
+    alloc: Global,
+    ty: &Ty,
+    primitive: &Primitive,
+    edit: &ShapeEdit,
+    doc: &Doc,
+    before: &Bridge,
+) -> Result<Made, PrimitiveFault>
+    requires well_formed { is_well_formed (ty_tree ty.now) ≡ true }
+    requires typed { has (ty_tree ty.now) (doc_tree doc.now) ≡ true }
+    requires is { primitive_tree primitive.now ≡ shape edit.now }
+    ensures value { MatchResult result
+        (λ m. act_primitive (ty_tree ty.now) (shape edit.now) (doc_tree doc.now) ≡ Ok (doc_tree m.value))
+        (λ fault. IsPrimitiveRefusal (act_primitive (ty_tree ty.now) (shape edit.now) (doc_tree doc.now)) fault) }
+    ensures bridge { IfOk result (λ m. bridge_tree m.bridge ≡ bridge_primitive (ty_tree ty.now) (shape edit.now)
+        (doc_tree doc.now) (bridge_tree before.now)) }
+{
+    let Ty::List(_) = ty else {
+        return acted(alloc, ty, primitive, doc, Bridge::Lost);
+    };
+    let Doc::Hold(_, docs) = doc else {
+        return acted(alloc, ty, primitive, doc, Bridge::Lost);
+    };
+    let next = after_shape(alloc, before, docs, edit)?;
+    acted(alloc, ty, primitive, doc, next)
 }

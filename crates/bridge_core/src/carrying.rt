@@ -5,12 +5,13 @@ ghost use Rattle.std.specs.Prelude.{◌≡◌, Ok, IfOk, IfErr, MatchResult};
 ghost use Rattle.std.specs.Str.{is_utf8};
 ghost use Rattle.doc_values.specs.Documents.{DocTree};
 ghost use Rattle.doc_values.specs.Types.{TyTree, ty_tree};
-ghost use Rattle.edit_module.specs.Words.{joined, no_primitives, more_primitives, at, stay};
+ghost use Rattle.edit_module.specs.Words.{joined, no_primitives, more_primitives, at, stay, modify};
+ghost use Rattle.hold_shapes.specs.declared.edit.Place.TheVariants.{Index};
 ghost use Rattle.edit_module.specs.Views.{primitive_tree, word_tree};
 ghost use Rattle.edit_module.specs.Action.{act, inner};
-ghost use Rattle.bridge_core.specs.Bridges.{bridge_tree, bridges_tree, parts, arm, away, put_bridge_at};
+ghost use Rattle.bridge_core.specs.Bridges.{bridge_tree, bridges_tree, parts, arm, away, linked, put_bridge_at};
 ghost use Rattle.bridge_core.specs.Carried.{carry, carry_primitive, carry_other, carry_lost, carry_text, carry_splice};
-ghost use Rattle.bridge_core.specs.Carried.{carry_stay, carry_left, carry_switch, passes, splices, splice_of};
+ghost use Rattle.bridge_core.specs.Carried.{carry_stay, carry_left, carry_switch, carry_item, passes, splices, splice_of};
 ghost use Rattle.bridge_core.specs.Refusals.{carried_tree, IsNotCarried, IsGone};
 ghost use Rattle.bridge_core.specs.Spans.{Spans};
 ghost use Rattle.bridge_core.specs.Laws.{BeginsAt, LeadsTo};
@@ -18,10 +19,13 @@ ghost use Rattle.bridge_core.specs.Laws.{BeginsAt, LeadsTo};
 use crate::bridge::{Bridge, Bridges};
 use crate::fault::CarryFault;
 use crate::laws::{a_carried_word_acts, a_text_is_utf8, only_what_is_gone_is_refused};
+use crate::list_carrying::reshaped;
+use bridge_lists::ListBridge;
 use bridge_texts::{Splice, TextBridge};
 use doc_values::Ty;
 use edit_module::Cause;
 use edit_module::word::{Primitive, Word};
+use hold_shapes::Place;
 use std::alloc::{AllocError, Global};
 use std::rc::Rc;
 use texts::{Name, Str, Twin};
@@ -39,7 +43,8 @@ pub struct CarriedWord {
 ///
 /// - `exact`: it is what the definition `carry` has.
 /// - `refused`: a word that acts on the near document is refused with `Gone`, or since memory ran out. What it changes
-///   is gone in the far document: a text that was set, a container that was edited, or a tag that was left.
+///   is gone in the far document: a text that was set, an item of a list that was deleted, a keyed map or a tree that
+///   was edited, or a tag that was left.
 /// - `acts`: if the word acts on the near document, the carried one acts on the far one, unless a sum does not fit
 ///   there, and the bridge leads from the one value to the other.
 pub fn carry(
@@ -127,6 +132,7 @@ fn step(
         Bridge::Rec(bridges) => on_record(alloc, ty, bridges, primitive),
         Bridge::Arm(tag, inner) => on_arm(alloc, ty, tag, inner, primitive),
         Bridge::Away(old, new) => on_away(alloc, old, new, primitive),
+        Bridge::List(links, bridges) => on_list(alloc, ty, links, bridges, primitive),
     }
 }
 
@@ -407,4 +413,84 @@ fn left(held: &Name, old: &Name) -> CarryFault
     } else {
         CarryFault::NoApply(Cause::Tag)
     }
+}
+
+// ---- lists
+
+#[cycle(walk)]
+fn on_list(
+    alloc: Global,
+    ty: &Ty,
+    links: &Rc<ListBridge>,
+    bridges: &Bridges,
+    primitive: &Primitive,
+) -> Result<CarriedWord, CarryFault>
+    ensures { MatchResult result
+        (λ it. carry_primitive (ty_tree ty.now) (linked links.now.value.0 links.now.value.1 (bridges_tree bridges.now))
+        (primitive_tree primitive.now) ≡ Ok (carried_tree it))
+        (λ fault. IsNotCarried (carry_primitive (ty_tree ty.now)
+        (linked links.now.value.0 links.now.value.1 (bridges_tree bridges.now)) (primitive_tree primitive.now)) fault) }
+{
+    match primitive {
+        Primitive::Mod(place, word) => on_item(alloc, ty, links, bridges, place, word),
+        Primitive::Shape(edit) => reshaped(alloc, links, bridges, edit),
+        _ => Err(CarryFault::NoApply(Cause::Kind)),
+    }
+}
+
+// An edit of an item.
+#[cycle(walk)]
+fn on_item(
+    alloc: Global,
+    ty: &Ty,
+    links: &Rc<ListBridge>,
+    bridges: &Bridges,
+    place: &Place,
+    word: &Word,
+) -> Result<CarriedWord, CarryFault>
+    ensures { MatchResult result
+        (λ it. carry_item (ty_tree ty.now) links.now.value.0 links.now.value.1 (bridges_tree bridges.now) place.now
+        (λ t b. carry t b (word_tree word.now)) ≡ Ok (carried_tree it))
+        (λ fault. IsNotCarried (carry_item (ty_tree ty.now) links.now.value.0 links.now.value.1
+        (bridges_tree bridges.now) place.now (λ t b. carry t b (word_tree word.now))) fault) }
+{
+    let Ty::List(inner) = ty else {
+        return Err(CarryFault::NoApply(Cause::Kind));
+    };
+    let Place::Index(index) = place else {
+        return Err(CarryFault::NoApply(Cause::Kind));
+    };
+    if *index >= links.links().len() {
+        return Err(CarryFault::NoApply(Cause::Place));
+    }
+    let Some(far) = links.far_place(*index) else {
+        return Err(CarryFault::Gone);
+    };
+    let bridge = bridges.at(alloc, *index as usize)?;
+    match walk(alloc, inner, &bridge, word) {
+        Ok(made) => Ok(with_item(alloc, links, bridges, *index, far, made)?),
+        Err(fault) => Err(fault),
+    }
+}
+
+// The word of an item at its place in the far list, and the bridges of all items with the one behind it.
+fn with_item(
+    alloc: Global,
+    links: &Rc<ListBridge>,
+    bridges: &Bridges,
+    index: u64,
+    far: u64,
+    made: CarriedWord,
+) -> Result<CarriedWord, AllocError>
+    ensures word { IfOk result (λ it.
+        word_tree it.word ≡ more_primitives (modify (Index far) (word_tree made.word)) no_primitives) }
+    ensures bridge { IfOk result (λ it. bridge_tree it.bridge ≡ linked links.now.value.0 links.now.value.1
+        (put_bridge_at (bridges_tree bridges.now) index (bridge_tree made.bridge))) }
+{
+    let word = one(alloc, Primitive::Mod(Place::Index(far), made.word))?;
+    let next = bridges.with(alloc, index as usize, made.bridge)?;
+    Ok(CarriedWord {
+        word,
+        bridge: Bridge::List(links.clone()?, next),
+    })
 }
