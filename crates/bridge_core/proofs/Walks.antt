@@ -134,7 +134,7 @@ pub ruleset text_rules = (known-text)
 
 pub ruleset place_rules = (list-held)
 
-planned-gone : (r : Planned) (o : Option Lists.Carried) (bs : BridgeTrees) → IsOk r → o ≡ None → carry_planned r o bs ≡ Err gone
+pub planned-gone : (r : Planned) (o : Option Lists.Carried) (bs : BridgeTrees) → IsOk r → o ≡ None → carry_planned r o bs ≡ Err gone
 planned-gone (Ok p) o bs h e = ap (λ (q : Option Lists.Carried). carry_planned (Ok p) q bs) e
 planned-gone (Err cause) o bs h e = absurd cc
 

@@ -133,7 +133,6 @@ impl Bridges {
 
 impl Bridges {
     // The bridges of the items of a near list after a plan of it. A fresh item is the same in both lists.
-    #[tactic(auto, using(crate::proofs::BridgeItems::after_rules))]
     pub(crate) fn after(&self, alloc: Global, from: &Origins) -> Result<Bridges, AllocError>
         ensures { IfOk result (λ bs. bridges_tree bs ≡ bridges_after from.now (bridges_tree self.now)) }
     {
