@@ -26,7 +26,7 @@ use Rattle.bridge_core.specs.Carried.{gone, fails, Answer, carry_stay, carry_pla
 use Rattle.bridge_core.specs.Spans.{Spans}
 use Rattle.bridge_core.specs.Laws.{BridgeSpans, CarriedActs, OnlyGoneIsRefused, BeginsAt, LeadsTo, SpansValue}
 use Rattle.bridge_core.specs.Refusals.{carried_tree, IsNotCarried, IsGone}
-use Rattle.bridge_core.specs.declared.carrying.CarriedWord.{CarriedWord}
+use Rattle.bridge_core.specs.declared.carried_word.CarriedWord.{CarriedWord}
 use Rattle.bridge_core.specs.declared.fault.CarryFault.{CarryFault}
 use Rattle.bridge_core.specs.declared.fault.CarryFault.TheVariants.{Gone, NoApply, NoMemory}
 

@@ -19,25 +19,20 @@ ghost use Rattle.bridge_core.specs.Bridged.{bridge_stay, bridge_switch, parts_of
 ghost use Rattle.bridge_core.specs.Bridged.{linked_of, with_inner};
 ghost use Rattle.bridge_core.specs.Laws.{SpansValue};
 
-use crate::bridge::{Bridge, Bridges};
-use crate::laws::{a_bridge_spans, a_text_is_utf8};
-use crate::list_bridging::{after_shape, inner_of, linked_of, with_inner};
-use bridge_texts::TextBridge;
+use crate::bridge::Bridge;
+use crate::laws::a_bridge_spans;
+use crate::list_bridging::{after_shape, inner_of, linked_of};
+use crate::made::{
+    Made, after_set, after_splice, after_switch, arm_of, parts_of, unchanged, with_content,
+    with_field, with_item,
+};
 use doc_values::{Doc, Docs, Ty};
 use edit_module::action::{self, field_of, item_of, tag_of};
 use edit_module::word::{Primitive, Word};
 use edit_module::{ActFault, Cause, PrimitiveFault};
 use hold_shapes::{Place, Shape, ShapeEdit};
-use std::alloc::{AllocError, Global};
-use std::rc::Rc;
+use std::alloc::Global;
 use texts::{Name, Str, Twin};
-
-// What a word, or a primitive, makes of the far document, and the bridge to it.
-#[derive(Drop)]
-struct Made {
-    value: Doc,
-    bridge: Bridge,
-}
 
 /// The bridge between a document and what a word makes of it.
 ///
@@ -92,16 +87,6 @@ fn walk(alloc: Global, ty: &Ty, word: &Word, doc: &Doc, before: &Bridge) -> Resu
         }
     }
     Ok(current)
-}
-
-// The document itself.
-fn unchanged(alloc: Global, doc: &Doc, before: &Bridge) -> Result<Made, AllocError>
-    ensures value { IfOk result (λ m. doc_tree m.value ≡ doc_tree doc.now) }
-    ensures bridge { IfOk result (λ m. bridge_tree m.bridge ≡ bridge_tree before.now) }
-{
-    let value = doc.twin(alloc)?;
-    let bridge = before.twin(alloc)?;
-    Ok(Made { value, bridge })
 }
 
 // The value of a document after an inner word, whose failure has its cause alone, and the bridge to it.
@@ -191,32 +176,6 @@ fn acted(
     }
 }
 
-// The bridge after a value of a type was set.
-fn after_set(ty: &Ty) -> Bridge
-    ensures { bridge_tree result ≡ bridge_set (ty_tree ty.now) }
-{
-    match ty {
-        Ty::Text(_) => Bridge::Lost,
-        _ => Bridge::Other,
-    }
-}
-
-// The bridge after the far document went from a tag to another.
-fn after_switch(
-    alloc: Global,
-    before: &Bridge,
-    from: &Name,
-    to: &Name,
-) -> Result<Bridge, AllocError>
-    ensures { IfOk result (λ b. bridge_tree b ≡ bridge_switch (bridge_tree before.now) from.now to.now) }
-{
-    let to = to.twin(alloc)?;
-    match before {
-        Bridge::Away(old, _) => Ok(Bridge::Away(old.twin(alloc)?, to)),
-        _ => Ok(Bridge::Away(from.twin(alloc)?, to)),
-    }
-}
-
 // ---- texts
 
 // The value of a text after a splice, and the bridge to it.
@@ -248,43 +207,6 @@ fn spliced(
     };
     let next = after_splice(alloc, old, before, from, count, with)?;
     acted(alloc, ty, primitive, doc, next)
-}
-
-// The bridge after a splice of the far text.
-fn after_splice(
-    alloc: Global,
-    old: &Str,
-    before: &Bridge,
-    from: u64,
-    count: u64,
-    with: &Str,
-) -> Result<Bridge, AllocError>
-    ensures { IfOk result (λ b. bridge_tree b ≡ bridge_splice old.now (bridge_tree before.now) from count with.now) }
-{
-    match before {
-        Bridge::Same => {
-            a_text_is_utf8(old.as_str());
-            let runs = TextBridge::between_the_same(alloc);
-            with_splice(alloc, &runs, from, count, with)
-        }
-        Bridge::Text(runs) => with_splice(alloc, runs, from, count, with),
-        _ => Ok(Bridge::Lost),
-    }
-}
-
-// The bridge of a text with the runs after a splice of the far text.
-fn with_splice(
-    alloc: Global,
-    runs: &TextBridge,
-    from: u64,
-    count: u64,
-    with: &Str,
-) -> Result<Bridge, AllocError>
-    ensures { IfOk result (λ b. bridge_tree b ≡ with_splice (is_utf8 with.now) runs.now from count with.now) }
-{
-    a_text_is_utf8(with.as_str());
-    let next = runs.after_splice(alloc, from, count, with.character_count() as u64)?;
-    Ok(Bridge::Text(Rc::new(alloc, next)?))
 }
 
 // ---- records
@@ -326,59 +248,6 @@ fn at_field(
     }
 }
 
-// The bridges of the fields of a record.
-fn parts_of(alloc: Global, before: &Bridge, docs: &Docs) -> Result<Bridges, AllocError>
-    ensures { IfOk result (λ bs. bridges_tree bs ≡ parts_of (bridge_tree before.now) (docs_tree docs.now)) }
-{
-    match before {
-        Bridge::Same => Bridges::same_each(alloc, docs),
-        Bridge::Rec(bridges) => bridges.copy(alloc),
-        _ => Ok(Bridges::empty(alloc)),
-    }
-}
-
-// A record with another content of a field, and the bridges of all fields.
-fn with_field(
-    alloc: Global,
-    docs: &Docs,
-    bridges: &Bridges,
-    place: usize,
-    made: Made,
-) -> Result<Made, AllocError>
-    requires { place < length (doc_list (docs_tree docs.now)) }
-    ensures value { IfOk result (λ m.
-        doc_tree m.value ≡ rec (put_at (docs_tree docs.now) place (doc_tree made.value))) }
-    ensures bridge { IfOk result (λ m. bridge_tree m.bridge
-        ≡ parts (put_bridge_at (bridges_tree bridges.now) place (bridge_tree made.bridge))) }
-{
-    let next = bridges.with(alloc, place, made.bridge);
-    both(
-        rec_with(alloc, docs, place, made.value),
-        next.map(Bridge::Rec),
-    )
-}
-
-fn rec_with(alloc: Global, docs: &Docs, place: usize, next: Doc) -> Result<Doc, AllocError>
-    requires { place < length (doc_list (docs_tree docs.now)) }
-    ensures { IfOk result (λ d. doc_tree d ≡ rec (put_at (docs_tree docs.now) place (doc_tree next))) }
-{
-    let mut docs = docs.twin(alloc)?;
-    docs.set(alloc, place, next)?;
-    Ok(Doc::Rec(docs))
-}
-
-// A value with the bridge to it, if there was memory for both.
-fn both(
-    value: Result<Doc, AllocError>,
-    next: Result<Bridge, AllocError>,
-) -> Result<Made, AllocError>
-    ensures { IfOk result (λ m. (value ≡ Ok m.value) × (next ≡ Ok m.bridge)) }
-{
-    let value = value?;
-    let bridge = next?;
-    Ok(Made { value, bridge })
-}
-
 // ---- alternatives
 
 // Acts on the content of the tag that is there.
@@ -417,48 +286,6 @@ fn at_tag(
     match inside(alloc, inner, word, content, &old) {
         Ok(made) => Ok(with_content(alloc, held, before, made)?),
         Err(fault) => Err(fault),
-    }
-}
-
-// The bridge of the contents, where both documents have the same tag.
-fn arm_of(alloc: Global, before: &Bridge) -> Result<Bridge, AllocError>
-    ensures { IfOk result (λ b. bridge_tree b ≡ arm_of (bridge_tree before.now)) }
-{
-    match before {
-        Bridge::Arm(_, inner) => inner.twin(alloc),
-        _ => Ok(Bridge::Same),
-    }
-}
-
-// A tag with another content, and the bridge to it.
-fn with_content(alloc: Global, held: &Name, before: &Bridge, made: Made) -> Result<Made, AllocError>
-    ensures value { IfOk result (λ m. doc_tree m.value ≡ alt held.now (doc_tree made.value)) }
-    ensures bridge { IfOk result (λ m. bridge_tree m.bridge
-        ≡ bridge_stay (bridge_tree before.now) held.now (bridge_tree made.bridge)) }
-{
-    let next = after_stay(alloc, held, before, made.bridge);
-    both(tagged(alloc, held, made.value), next)
-}
-
-fn tagged(alloc: Global, tag: &Name, content: Doc) -> Result<Doc, AllocError>
-    ensures { IfOk result (λ d. doc_tree d ≡ alt tag.now (doc_tree content)) }
-{
-    let content = Box::new(alloc, content)?;
-    Ok(Doc::Alt(tag.twin(alloc)?, content))
-}
-
-// The bridge after the content of a tag was acted on.
-fn after_stay(
-    alloc: Global,
-    tag: &Name,
-    before: &Bridge,
-    inner: Bridge,
-) -> Result<Bridge, AllocError>
-    ensures { IfOk result (λ b. bridge_tree b ≡ bridge_stay (bridge_tree before.now) tag.now (bridge_tree inner)) }
-{
-    match before {
-        Bridge::Away(..) => before.twin(alloc),
-        _ => Bridge::with_tag(alloc, tag, inner),
     }
 }
 
@@ -532,40 +359,6 @@ fn at_item(
         Ok(made) => Ok(with_item(alloc, shape, docs, &links, at, made)?),
         Err(fault) => Err(fault),
     }
-}
-
-// A list with another item at a place, and the bridge to it.
-fn with_item(
-    alloc: Global,
-    shape: &Shape,
-    docs: &Docs,
-    links: &Bridge,
-    place: usize,
-    made: Made,
-) -> Result<Made, AllocError>
-    requires { place < length (doc_list (docs_tree docs.now)) }
-    ensures value { IfOk result (λ m.
-        doc_tree m.value ≡ hold shape.now (put_at (docs_tree docs.now) place (doc_tree made.value))) }
-    ensures bridge { IfOk result (λ m.
-        bridge_tree m.bridge ≡ with_inner (bridge_tree links.now) place (bridge_tree made.bridge)) }
-{
-    let next = with_inner(alloc, links, place, made.bridge);
-    both(hold_with(alloc, shape, docs, place, made.value), next)
-}
-
-fn hold_with(
-    alloc: Global,
-    shape: &Shape,
-    docs: &Docs,
-    place: usize,
-    next: Doc,
-) -> Result<Doc, AllocError>
-    requires { place < length (doc_list (docs_tree docs.now)) }
-    ensures { IfOk result (λ d. doc_tree d ≡ hold shape.now (put_at (docs_tree docs.now) place (doc_tree next))) }
-{
-    let mut docs = docs.twin(alloc)?;
-    docs.set(alloc, place, next)?;
-    Ok(Doc::Hold(shape.twin(alloc)?, docs))
 }
 
 // Edits the shape of a container.

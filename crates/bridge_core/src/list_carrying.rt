@@ -12,7 +12,7 @@ ghost use Rattle.bridge_core.specs.Carried.{carry_shape, carry_planned, shapes};
 ghost use Rattle.bridge_core.specs.Refusals.{carried_tree, IsNotCarried};
 
 use crate::bridge::{Bridge, Bridges};
-use crate::carrying::CarriedWord;
+use crate::carried_word::CarriedWord;
 use crate::fault::CarryFault;
 use bridge_lists::{CarriedEdits, CarryFault as ListFault, ListBridge};
 use edit_module::Cause;
