@@ -1,6 +1,7 @@
 -- A word that was made for the near document, as a word for the far one, with the bridge behind it.
 -- Read it from the end: `carry` goes through a word, and `carry_primitive` has a line for each bridge.
-use Rattle.std.specs.Prelude.{ℕ, Bool, List, map, bytes_eq, nat_lt, if◌then◌else◌, length, Option, None, Some, Result, Ok, Err}
+use Rattle.std.specs.Prelude.{ℕ, Bool, List, map, bytes_eq, nat_lt, if◌then◌else◌, length, Option, None, Some, Result}
+use Rattle.std.specs.Prelude.{Ok, Err}
 use Rattle.std.specs.Str.{is_utf8}
 use Rattle.texts.specs.Characters.{character_count}
 use Rattle.hold_shapes.specs.declared.edit.Place.{Place as PlaceOf}

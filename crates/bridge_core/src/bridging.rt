@@ -2,21 +2,20 @@
 //!
 //! A word is walked as its action does: each primitive is applied to a copy, which shares its contents, and gives the
 //! value that the next one meets.
-ghost use Rattle.std.specs.Prelude.{◌≡◌, ◌<◌, Ok, IfOk, MatchResult, true, length};
-ghost use Rattle.std.specs.Str.{is_utf8};
-ghost use Rattle.doc_values.specs.Documents.{doc_tree, docs_tree, doc_list, rec, alt, hold};
+ghost use Rattle.std.specs.Prelude.{◌≡◌, ◌<◌, Ok, IfOk, MatchResult, true};
+ghost use Rattle.doc_values.specs.Documents.{doc_tree, docs_tree};
 ghost use Rattle.doc_values.specs.Types.{ty_tree, is_well_formed};
 ghost use Rattle.doc_values.specs.Typing.{has};
 ghost use Rattle.edit_module.specs.Views.{primitive_tree, word_tree};
 ghost use Rattle.hold_shapes.specs.Shapes.{place_of};
-ghost use Rattle.edit_module.specs.Action.{act, act_primitive, act_at_place, inner, put_at, doc_at};
+ghost use Rattle.edit_module.specs.Action.{act, act_primitive, act_at_place, inner, doc_at};
 ghost use Rattle.edit_module.specs.Containers.{IsHeld};
 ghost use Rattle.edit_module.specs.Refusals.{IsRefusal, IsPrimitiveRefusal};
 ghost use Rattle.edit_module.specs.Words.{at, stay, splice, modify, shape};
-ghost use Rattle.bridge_core.specs.Bridges.{bridge_tree, bridges_tree, same, parts, put_bridge_at};
-ghost use Rattle.bridge_core.specs.Bridged.{bridge, bridge_primitive, bridge_set, bridge_splice, with_splice};
-ghost use Rattle.bridge_core.specs.Bridged.{bridge_stay, bridge_switch, parts_of, arm_of, for_found, bridge_item};
-ghost use Rattle.bridge_core.specs.Bridged.{linked_of, with_inner};
+ghost use Rattle.bridge_core.specs.Bridges.{bridge_tree, same};
+ghost use Rattle.bridge_core.specs.Bridged.{bridge, bridge_primitive};
+ghost use Rattle.bridge_core.specs.Bridged.{parts_of, arm_of, for_found, bridge_item};
+ghost use Rattle.bridge_core.specs.Bridged.{linked_of};
 ghost use Rattle.bridge_core.specs.Laws.{SpansValue};
 
 use crate::bridge::Bridge;

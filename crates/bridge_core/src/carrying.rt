@@ -2,16 +2,14 @@
 //!
 //! A word is walked primitive by primitive, each with the bridge that the one before has left.
 ghost use Rattle.std.specs.Prelude.{◌≡◌, Ok, IfOk, IfErr, MatchResult};
-ghost use Rattle.std.specs.Str.{is_utf8};
 ghost use Rattle.doc_values.specs.Documents.{DocTree};
 ghost use Rattle.doc_values.specs.Types.{TyTree, ty_tree};
-ghost use Rattle.edit_module.specs.Words.{joined, no_primitives, more_primitives, at, stay, modify};
 ghost use Rattle.hold_shapes.specs.declared.edit.Place.TheVariants.{Index};
 ghost use Rattle.edit_module.specs.Views.{primitive_tree, word_tree};
 ghost use Rattle.edit_module.specs.Action.{act, inner};
-ghost use Rattle.bridge_core.specs.Bridges.{bridge_tree, bridges_tree, parts, arm, away, linked, put_bridge_at};
-ghost use Rattle.bridge_core.specs.Carried.{carry, carry_primitive, carry_other, carry_lost, carry_text, carry_splice};
-ghost use Rattle.bridge_core.specs.Carried.{carry_stay, carry_left, carry_switch, carry_item, passes, splices, splice_of};
+ghost use Rattle.bridge_core.specs.Bridges.{bridge_tree, bridges_tree, parts, arm, away, linked};
+ghost use Rattle.bridge_core.specs.Carried.{carry, carry_primitive, carry_text};
+ghost use Rattle.bridge_core.specs.Carried.{carry_stay, carry_item};
 ghost use Rattle.bridge_core.specs.Refusals.{carried_tree, IsNotCarried, IsGone};
 ghost use Rattle.bridge_core.specs.Spans.{Spans};
 ghost use Rattle.bridge_core.specs.Laws.{BeginsAt, LeadsTo};

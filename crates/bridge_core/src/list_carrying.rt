@@ -1,5 +1,5 @@
 //! An edit of the shape of a near list, carried to the far one.
-ghost use Rattle.std.specs.Prelude.{◌≡◌, ℕ, Ok, Some, IfOk, MatchResult, Option, length};
+ghost use Rattle.std.specs.Prelude.{◌≡◌, ℕ, Ok, Some, IfOk, MatchResult, Option};
 ghost use Rattle.hold_shapes.specs.declared.edit.ShapeEdit.{ShapeEdit};
 ghost use Rattle.hold_shapes.specs.Causes.{IsRefusal as IsPlanRefusal};
 ghost use Rattle.hold_shapes.specs.Plans.{Planned, plan_list};
@@ -66,7 +66,10 @@ fn with_bridges(
     made: CarriedEdits,
 ) -> Result<CarriedWord, AllocError>
     ensures { IfOk result (λ it. carried_tree it
-        ≡ (shapes made.edits.items, linked made.bridge.0 made.bridge.1 (bridges_after from.now (bridges_tree bridges.now)))) }
+        ≡ (
+          shapes made.edits.items,
+          linked made.bridge.0 made.bridge.1 (bridges_after from.now (bridges_tree bridges.now)),
+        )) }
 {
     let word = shapes(alloc, made.edits)?;
     let inner = bridges.after(alloc, from)?;
