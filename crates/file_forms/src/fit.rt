@@ -15,7 +15,9 @@ use crate::form::FileForm;
 use crate::literal::Literal;
 use crate::misfit::{FormFault, FormMisfit, FormStep};
 use crate::sign::{Sign, clash, sign_of};
-use crate::words::{is_writable, member_twice, not_writable, same_literal, sign_meets_truths, sign_meets_words};
+use crate::words::{
+    is_writable, member_twice, not_writable, same_literal, sign_meets_truths, sign_meets_words,
+};
 use std::alloc::{AllocError, Global};
 use texts::{Name, Twin};
 
