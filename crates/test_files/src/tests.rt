@@ -199,7 +199,7 @@ fn literals_of_members(rt: HostRuntime) -> Result<(), Fail> {
     assert!(rt; fit.misfit(alloc)?.is_none());
     drop(fit);
     for (first, one, second, other, wanted, fault) in [
-        ("a", "1", "a", "2", "/a", FormFault::TagTwice),
+        ("a", "1", "a", "2", "/a", FormFault::MemberTwice),
         ("a", "1", "b", "1", "/a", FormFault::SameLiteral),
         ("a", "1", "b", "1.", "/b", FormFault::NotANumber),
     ] {
