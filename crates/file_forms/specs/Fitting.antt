@@ -25,8 +25,8 @@ are_unlike [] = true
 are_unlike (l ∷ ls) = not (is_any ls (literal_slot l)) && are_unlike ls
 
 -- the condition on a form, in all its parts: the fields of a record are strictly rising by bytes, the tags of
--- alternatives and the members of an enum are distinct, so are the literals of members and of truth values, no slot could
--- be that of two tags whose contents are written alone, and a literal that is a number has the letters of one
+-- alternatives and the members of an enum are distinct, so are the literals of members and of truth values, no slot
+-- could be that of two tags whose contents are written alone, and a literal that is a number has the letters of one
 abbrev mutual
   pub is_fit : FileFormTree → Bool
   is_fit (as_literal l) = is_writable l

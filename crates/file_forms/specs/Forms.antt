@@ -18,9 +18,9 @@ word_literals [] = []
 word_literals (w ∷ ws) = w.1 ∷ word_literals ws
 
 -- how a file has a document: null, or another literal in its place; a bool, or a literal for each truth value, that of
--- false first; a number; a string; a member of an enum as a string, or as the literal of that member; a text as a number
--- with these letters; a record as an object with a member for each field that is there; alternatives as an object with
--- the tag as its one member, or as the content alone; a list as an array; a keyed map as an object
+-- false first; a number; a string; a member of an enum as a string, or as the literal of that member; a text as a
+-- number with these letters; a record as an object with a member for each field that is there; alternatives as an
+-- object with the tag as its one member, or as the content alone; a list as an array; a keyed map as an object
 mutual
   pub data FileFormTree : Type 0 where
     as_literal : Literal → FileFormTree

@@ -79,7 +79,8 @@ truths_misfit f t =
 abbrev pub words_misfit : List (List ℕ × Literal) → Option Misfit
 words_misfit ws =
     first_of (option_map (at_field MemberTwice) (member_twice ws))
-    (first_of (option_map (at_field SameLiteral) (same_literal ws)) (option_map (at_field NotANumber) (not_writable ws)))
+    (first_of (option_map (at_field SameLiteral) (same_literal ws))
+    (option_map (at_field NotANumber) (not_writable ws)))
 
 -- what is wrong with a form, whatever its parts are
 abbrev pub own_misfit : FileFormTree → Option Misfit

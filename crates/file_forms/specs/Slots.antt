@@ -1,6 +1,7 @@
 -- A slot is what may stand in the place of a member: nothing, or a tree. `takes` says which slots begin as a form
 -- writes them; no slot does so for two tags of a form that `are_told_apart`.
-use Rattle.std.specs.Prelude.{ℕ, Bool, true, false, ◌&&◌, ◌||◌, not, bytes_eq, nat_eq, List, [], ◌∷◌, Option, Some, None}
+use Rattle.std.specs.Prelude.{ℕ, Bool, true, false, ◌&&◌, ◌||◌, not, bytes_eq, nat_eq, List, [], ◌∷◌, Option, Some}
+use Rattle.std.specs.Prelude.{None}
 use Rattle.json.specs.Json.{Json, null, boolean, number, string, array, object}
 use Rattle.file_forms.specs.declared.literal.Literal.{Literal}
 use Rattle.file_forms.specs.declared.literal.Literal.TheVariants.{Gone, Null, Bool as Truth, Number, Text}
