@@ -1,0 +1,5 @@
+pub mod Resized
+pub mod KeySteps
+pub mod NodeSteps
+pub mod PartSteps
+pub mod BetweenActs
