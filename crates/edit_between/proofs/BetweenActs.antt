@@ -96,6 +96,7 @@ trees-act false t r s ds es ws us e a b n m l u =
     some : (q : List ℕ) → Whole q → 0 < length q
     some [] w = absurd w
     some (d ∷ q) w = omega arith
+
     anew : (xs ys : List DocTree) (ws us : List WordTree) → length r ≡ length xs → length s ≡ length ys → Leads t ws (starts t xs ys) ys → Built t us ys → 0 < length r → 0 < length s
         → act (ty_ordered t) (prunes (children r 0) (grow (paths s) (with_root ws us))) (hold (TreeOf r) (docs_of xs)) ≡ Ok (hold (TreeOf s) (docs_of ys))
     anew [] ys ws us n m l u x y = absurd (omega arith)
@@ -199,21 +200,21 @@ mutual
       (λ some. between-acts e t (first_doc docs) wf (each-first t docs (each-drop t n ds h) some) here)
       (construct-law t e wf here)
       (λ q.
-          let u = drop-drop 1 n ks in
-          let w = drop-drop 1 n ds in
-          let ks' = drop 1 left in
-          let ds' = drop 1 docs in
-          let rising = joined-rising front l left q there one in
-          let got = keys-lead es t ks' ds' ls (front ++ l ∷ []) (xs ++ e ∷ []) wf (each-drop t 1 docs (each-drop t n ds h)) rest (omega arith) (omega arith) (omega arith) rising s' in
-          let W : List (List ℕ) → List DocTree → Type 0 = λ x y. OnKeys t (between_keys t x y ls es) ((front ++ l ∷ []) ++ ks') ((xs ++ e ∷ []) ++ ds') v in
-          let G : DocTree → Type 0 = λ z. OnKeys t (between_keys t ks' ds' ls es) ((front ++ l ∷ []) ++ ks') ((xs ++ e ∷ []) ++ ds') z in
-          let g : W ks' ds' = subst G end got in
-          subst (λ (x : List (List ℕ)). W x (drop (n + 1) ds)) u (subst (λ (y : List DocTree). W ks' y) w g))
+      let u = drop-drop 1 n ks in
+      let w = drop-drop 1 n ds in
+      let ks' = drop 1 left in
+      let ds' = drop 1 docs in
+      let rising = joined-rising front l left q there one in
+      let got = keys-lead es t ks' ds' ls (front ++ l ∷ []) (xs ++ e ∷ []) wf (each-drop t 1 docs (each-drop t n ds h)) rest (omega arith) (omega arith) (omega arith) rising s' in
+      let W : List (List ℕ) → List DocTree → Type 0 = λ x y. OnKeys t (between_keys t x y ls es) ((front ++ l ∷ []) ++ ks') ((xs ++ e ∷ []) ++ ds') v in
+      let G : DocTree → Type 0 = λ z. OnKeys t (between_keys t ks' ds' ls es) ((front ++ l ∷ []) ++ ks') ((xs ++ e ∷ []) ++ ds') z in
+      let g : W ks' ds' = subst G end got in
+      subst (λ (x : List (List ℕ)). W x (drop (n + 1) ds)) u (subst (λ (y : List DocTree). W ks' y) w g))
       (λ q.
-          let rising = seam-rising front l left one (split q) there in
-          let got = keys-lead es t left docs ls (front ++ l ∷ []) (xs ++ e ∷ []) wf (each-drop t n ds h) rest (omega arith) (omega arith) (omega arith) rising s' in
-          let G : DocTree → Type 0 = λ z. OnKeys t (between_keys t left docs ls es) ((front ++ l ∷ []) ++ left) ((xs ++ e ∷ []) ++ docs) z in
-          subst G end got))
+      let rising = seam-rising front l left one (split q) there in
+      let got = keys-lead es t left docs ls (front ++ l ∷ []) (xs ++ e ∷ []) wf (each-drop t n ds h) rest (omega arith) (omega arith) (omega arith) rising s' in
+      let G : DocTree → Type 0 = λ z. OnKeys t (between_keys t left docs ls es) ((front ++ l ∷ []) ++ left) ((xs ++ e ∷ []) ++ docs) z in
+      subst G end got))
 
 pub between-law : (t : TyTree) (v u : DocTree) → is_well_formed t ≡ true → has t v ≡ true → has t u ≡ true → act t (between t v u) v ≡ Ok u
 between-law t v u wf h k = between-acts u t v wf h k

@@ -2,7 +2,7 @@
 use Rattle.std.proofs.Common.{◌≡◌, ℕ, ◌+◌, ◌<◌, ◌≤◌, suc, zero, Bool, true, false, List, [], ◌∷◌, ◌++◌, length, get_or, take, drop, Option, None, Some, Ok, refl, sym, ap, subst, ◌∙◌, arith}
 use Rattle.std.specs.Prelude.{if◌then◌else◌, bytes_eq}
 use Rattle.std.specs.List.{insert, remove}
-use Rattle.std.proofs.lemmas.List.{append_assoc, length-append}
+use Rattle.std.proofs.lemmas.List.{append_assoc, length-append, drop_all, drop_more}
 use Rattle.std.proofs.Math.Seq.{get_or-append_seam}
 use Rattle.hold_shapes.specs.declared.shape.Shape.TheVariants.{Keyed as KeyedOf}
 use Rattle.hold_shapes.specs.declared.edit.Place.TheVariants.{Key}
@@ -206,3 +206,32 @@ pub seam-rising : (front : List (List ℕ)) (l : List ℕ) (ks : List (List ℕ)
 seam-rising front l ks s a r =
     let R : List (List ℕ) → Type 0 = λ q. is_rising q ≡ true in
     subst R (sym (append_assoc front (l ∷ []) ks)) (rising-seam front l ks s a (rising-back front ks r))
+
+-- ---- the keys that come before another one, in a loop
+
+pub rank-next : (k : List ℕ) (ks : List (List ℕ)) (i : ℕ) (m : List ℕ) → i < length ks → m ≡ get_or ks i m → is_before m k ≡ true
+    → (drop i ks ≡ m ∷ drop (i + 1) ks) × (key_rank k (drop i ks) ≡ suc (key_rank k (drop (i + 1) ks)))
+rank-next k ks i m h e b =
+    let P : List ℕ → Type 0 = λ n. drop i ks ≡ n ∷ drop (i + 1) ks in
+    let next : P m = subst P (sym e) (drop_more ks i m h) in
+    (next, ap (λ (l : List (List ℕ)). key_rank k l) next ∙ rw b refl)
+
+pub rank-stop : (k : List ℕ) (ks : List (List ℕ)) (i : ℕ) (m : List ℕ) → is_rising ks ≡ true → i < length ks → m ≡ get_or ks i m → is_before m k ≡ false → key_rank k (drop i ks) ≡ 0
+rank-stop k ks i m r h e b =
+    let P : List ℕ → Type 0 = λ n. drop i ks ≡ n ∷ drop (i + 1) ks in
+    let next : P m = subst P (sym e) (drop_more ks i m h) in
+    let R : List (List ℕ) → Type 0 = λ l. is_rising l ≡ true in
+    let rising : is_rising (m ∷ drop (i + 1) ks) ≡ true = subst R next (rising-drop i [] ks r) in
+    ap (λ (l : List (List ℕ)). key_rank k l) next ∙ (rw b (rank-zero k m (drop (i + 1) ks) (bytes_eq k m) refl b rising))
+
+pub rank-past : (k : List ℕ) (ks : List (List ℕ)) (i : ℕ) → length ks ≤ i → key_rank k (drop i ks) ≡ 0
+rank-past k ks i h = ap (λ (l : List (List ℕ)). key_rank k l) (drop_all i ks h)
+
+pub first-at : (k : List ℕ) (ks : List (List ℕ)) (i : ℕ) (m : List ℕ) → i < length ks → m ≡ get_or ks i m → bytes_eq k m ≡ is_first k (drop i ks)
+first-at k ks i m h e =
+    let P : List ℕ → Type 0 = λ n. drop i ks ≡ n ∷ drop (i + 1) ks in
+    let next : P m = subst P (sym e) (drop_more ks i m h) in
+    ap (λ (l : List (List ℕ)). is_first k l) (sym next)
+
+pub first-past : (k : List ℕ) (ks : List (List ℕ)) (i : ℕ) → length ks ≤ i → false ≡ is_first k (drop i ks)
+first-past k ks i h = ap (λ (l : List (List ℕ)). is_first k l) (sym (drop_all i ks h))

@@ -3,3 +3,5 @@ pub mod KeySteps
 pub mod NodeSteps
 pub mod PartSteps
 pub mod BetweenActs
+pub mod BetweenLoops
+pub mod DocParts

@@ -174,3 +174,8 @@ grow-acts t (d ∷ es) (w ∷ ws) x (y ∷ ys) g e b =
     let made = acts-there kinds.Tree t (Node []) w (graft_each (paths_after [] es) ws) (TreeOf (0 ∷ [])) [] [] x y 0 (hold (TreeOf (0 ∷ es)) (docs_of (y ∷ ys))) refl refl refl b.0 goes in
     let P : ℕ → Type 0 = λ n. act (ty_ordered t) (grow (paths (d ∷ es)) (w ∷ ws)) (hold (TreeOf (0 ∷ [])) (docs_of (x ∷ []))) ≡ Ok (hold (TreeOf (n ∷ es)) (docs_of (y ∷ ys))) in
     subst P (sym g.0) made
+
+-- ---- as the code makes them
+
+pub prunes-more : (n i : ℕ) (rest : WordTree) → i < n → prunes (n - i) rest ≡ reshape (Prune []) (prunes (n - (i + 1)) rest)
+prunes-more n i rest h = let e : n - i ≡ suc (n - (i + 1)) = omega arith in ap (λ (k : ℕ). prunes k rest) e

@@ -225,3 +225,18 @@ resized-acts t xs ys rest v goes =
     let whole : m ≡ i + (m - n) = omega arith in
     deletions-act t (n - m) i n xs (insertions (m - n) rest) v (omega arith) refl
     (more-act t (m - n) i (take i xs) rest v (sym s) (subst Q (sym (starts-is t xs ys)) (subst P whole goes)))
+
+-- ---- as the code makes them
+
+pub resized-down : (n m : ℕ) (rest : WordTree) → m < n → deletions (n - m) rest ≡ resized n m rest
+resized-down n m rest h = let z : 0 ≡ m - n = omega arith in ap (λ (c : ℕ). deletions (n - m) (insertions c rest)) z
+
+pub resized-up : (n m : ℕ) (rest : WordTree) → n ≤ m → insertions (m - n) rest ≡ resized n m rest
+resized-up n m rest h = let z : 0 ≡ n - m = omega arith in ap (λ (c : ℕ). deletions c (insertions (m - n) rest)) z
+
+pub ruleset resized_rules = (resized-down, resized-up)
+
+pub full-more : (full i : ℕ) (rest : WordTree) → i < full → full_deletions (full - i) rest ≡ reshape (Del MOST_ITEMS) (full_deletions (full - (i + 1)) rest)
+full-more full i rest h =
+    let e : full - i ≡ suc (full - (i + 1)) = omega arith in
+    ap (λ (n : ℕ). full_deletions n rest) e
