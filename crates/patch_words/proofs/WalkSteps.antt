@@ -1,16 +1,18 @@
 -- The steps of a walk over the operations of a patch.
-use Rattle.std.proofs.Common.{◌≡◌, ℕ, ◌+◌, true, List, [], ◌∷◌, Option, None, Some, option_map, Result, Ok, Err, refl, sym, ap, subst, ◌∙◌}
+use Rattle.std.proofs.Common.{◌≡◌, ℕ, ◌+◌, ◌<◌, ◌≤◌, true, drop, get_or, length, List, [], ◌∷◌, Option, None, Some, option_map, Result, Ok, Err, refl, sym, ap, subst, ◌∙◌}
 use Rattle.std.specs.Prelude.{IfOk}
 use Rattle.std.specs.Option.{option_flatten}
 use Rattle.std.specs.Result.{result_ok}
+use Rattle.std.proofs.lemmas.List.{drop_all, drop_more}
 use Rattle.json.specs.Json.{Json}
 use Rattle.doc_values.specs.Documents.{DocTree, doc_tree}
 use Rattle.doc_values.specs.Types.{TyTree, is_well_formed}
 use Rattle.doc_values.specs.Typing.{has}
 use Rattle.edit_module.specs.declared.word.Word.{Word}
-use Rattle.edit_module.specs.Words.{WordTree, joined}
+use Rattle.edit_module.specs.Words.{WordTree, no_primitives, joined}
 use Rattle.edit_module.specs.Views.{word_tree}
 use Rattle.edit_module.proofs.Words.{joined_assoc}
+use Rattle.edit_module.proofs.JoinedWords.{joined_nothing}
 use Rattle.edit_between.specs.Between.{between}
 use Rattle.file_trees.specs.FileTrees.{file_tree}
 use Rattle.file_forms.specs.Forms.{FileFormTree, type_of}
@@ -21,7 +23,8 @@ use Rattle.file_forms.proofs.WrittenTypes.{typed}
 use Rattle.file_values.specs.Reading.{Misfit, reading}
 use Rattle.file_values.proofs.ReadingReads.{agrees}
 use Rattle.file_patches.specs.declared.fault.Cause.{Cause}
-use Rattle.file_patches.specs.Operations.{OperationTree}
+use Rattle.file_patches.specs.Operations.{OperationTree, operation_tree, patch_view}
+use Rattle.file_patches.specs.declared.operations.Operation.{Operation}
 use Rattle.file_patches.specs.Patching.{operated, patched}
 use Rattle.file_patches.specs.Results.{on_ok}
 use Rattle.patch_words.specs.declared.fault.WordFault.{WordFault}
@@ -94,6 +97,39 @@ stops t f n walk o fault h os =
     let u = option_map unread_view walk.unread in
     let R : Result WordTree NoWord → Type 0 = λ r. Refuses fault r in
     on-refused fault (word_tree walk.word) (words_from t f n u d (file_tree walk.tree) (o ∷ os)) (subst R (sym (words-step t f n u d (file_tree walk.tree) o os)) (h _))
+
+-- ---- a walk begins and ends
+
+on-none : (r : Result WordTree NoWord) → on_ok (joined no_primitives) r ≡ r
+on-none (Ok w) = refl
+on-none (Err why) = refl
+
+pub begins : (t : TyTree) (f : FileFormTree) (walk : Walk) (d : DocTree) (j : Json) (os : List OperationTree) → word_tree walk.word ≡ no_primitives → doc_tree walk.doc ≡ d → file_tree walk.tree ≡ j → walk.unread ≡ None
+    → on_from t f 0 walk os ≡ words_from t f 0 None d j os
+begins t f walk d j os word doc tree unread =
+    ap (λ (w : WordTree). on_ok (joined w) (words_from t f 0 (option_map unread_view walk.unread) (doc_tree walk.doc) (file_tree walk.tree) os)) word
+    ∙ (on-none (words_from t f 0 (option_map unread_view walk.unread) (doc_tree walk.doc) (file_tree walk.tree) os)
+    ∙ (ap (λ (u : Option _). words_from t f 0 (option_map unread_view u) (doc_tree walk.doc) (file_tree walk.tree) os) unread
+    ∙ (ap (λ (x : DocTree). words_from t f 0 None x (file_tree walk.tree) os) doc ∙ ap (λ (x : Json). words_from t f 0 None d x os) tree)))
+
+pub ends : (t : TyTree) (f : FileFormTree) (n : ℕ) (walk : Walk) → walk.unread ≡ None → on_from t f n walk [] ≡ Ok (word_tree walk.word)
+ends t f n walk unread =
+    ap (λ (u : Option _). on_ok (joined (word_tree walk.word)) (words_from t f n (option_map unread_view u) (doc_tree walk.doc) (file_tree walk.tree) [])) unread
+    ∙ ap (λ (w : WordTree). Ok w) (joined_nothing (word_tree walk.word))
+
+pub none-of : {X : Type 0} (o : Option X) → ((x : X) → o ≡ Some x → ⊥) → o ≡ None
+none-of None h = refl
+none-of (Some x) h = absurd (h x refl)
+
+-- ---- the operations of a patch
+
+pub patch-next : (ops : List Operation) (i : ℕ) (o : Operation) → i < length ops → o ≡ get_or ops i o → patch_view (drop i ops) ≡ operation_tree o ∷ patch_view (drop (i + 1) ops)
+patch-next ops i o h e =
+    let P : Operation → Type 0 = λ x. drop i ops ≡ x ∷ drop (i + 1) ops in
+    ap patch_view (subst P (sym e) (drop_more ops i o h))
+
+pub patch-done : (ops : List Operation) (i : ℕ) → length ops ≤ i → patch_view (drop i ops) ≡ []
+patch-done ops i h = ap patch_view (drop_all i ops h)
 
 -- what is read has the type
 pub read-has : (f : FileFormTree) (t : TyTree) (k : Json) (e : DocTree) → is_fit f ≡ true → type_of f ≡ t → read f (Some k) ≡ Some e → has t e ≡ true

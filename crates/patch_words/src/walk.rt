@@ -1,6 +1,6 @@
 //! A walk over the operations of a patch: the file now, the last document that was read, and the word up to it.
 
-ghost use Rattle.std.specs.Prelude.{◌≡◌, ℕ, [], true, IfOk, None, option_map};
+ghost use Rattle.std.specs.Prelude.{◌≡◌, ℕ, [], true, IfOk, None, Some, option_map};
 ghost use Rattle.doc_values.specs.Documents.{doc_tree};
 ghost use Rattle.doc_values.specs.Types.{TyTree, ty_tree};
 ghost use Rattle.doc_values.specs.Typing.{has};
@@ -88,14 +88,17 @@ impl Walk {
             ≡ first_unread (option_map unread_view self.unread) number (misfit_view misfit) }
         ensures state { (result.tree ≡ tree) × (result.doc ≡ self.doc) × (result.word ≡ self.word) }
     {
-        let unread = match self.unread {
-            Some(first) => Some(first),
-            None => Some((number, misfit)),
-        };
+        let Walk {
+            tree: _,
+            doc,
+            word,
+            unread,
+        } = self;
+        let unread = Some(first_unread(unread, number, misfit));
         Walk {
             tree,
-            doc: self.doc,
-            word: self.word,
+            doc,
+            word,
             unread,
         }
     }
@@ -104,11 +107,31 @@ impl Walk {
     pub(crate) fn end(self) -> Result<Word, WordFault>
         ensures { (t : TyTree) (f : FileFormTree) (n : ℕ) → Makes result (on_from t f n self []) }
     {
-        match self.unread {
-            None => Ok(self.word),
-            Some((number, misfit)) => Err(WordFault::NotRead(number, misfit)),
+        let Walk {
+            tree: _,
+            doc: _,
+            word,
+            unread,
+        } = self;
+        if let Some((number, misfit)) = unread {
+            return Err(WordFault::NotRead(number, misfit));
         }
+        Ok(word)
     }
+}
+
+// The first operation after which the file is not read, or this one.
+fn first_unread(
+    before: Option<(usize, FileMisfit)>,
+    number: usize,
+    misfit: FileMisfit,
+) -> (usize, FileMisfit)
+    ensures { Some (unread_view result) ≡ first_unread (option_map unread_view before) number (misfit_view misfit) }
+{
+    if let Some(first) = before {
+        return first;
+    }
+    (number, misfit)
 }
 
 // What an operation of this number makes of a file.
