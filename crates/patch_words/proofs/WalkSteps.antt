@@ -2,7 +2,6 @@
 use Rattle.std.proofs.Common.{◌≡◌, ℕ, ◌+◌, ◌<◌, ◌≤◌, true, drop, get_or, length, List, [], ◌∷◌, Option, None, Some, option_map, Result, Ok, Err, refl, sym, ap, subst, ◌∙◌}
 use Rattle.std.specs.Prelude.{IfOk}
 use Rattle.std.specs.Option.{option_flatten}
-use Rattle.std.specs.Result.{result_ok}
 use Rattle.std.proofs.lemmas.List.{drop_all, drop_more}
 use Rattle.json.specs.Json.{Json}
 use Rattle.doc_values.specs.Documents.{DocTree, doc_tree}
@@ -21,18 +20,17 @@ use Rattle.file_forms.specs.FileValues.{read, write}
 use Rattle.file_forms.proofs.ComesBack.{read_typed}
 use Rattle.file_forms.proofs.WrittenTypes.{typed}
 use Rattle.file_values.specs.Reading.{Misfit, reading}
-use Rattle.file_values.proofs.ReadingReads.{agrees}
 use Rattle.file_patches.specs.declared.fault.Cause.{Cause}
 use Rattle.file_patches.specs.Operations.{OperationTree, operation_tree, patch_view}
 use Rattle.file_patches.specs.declared.operations.Operation.{Operation}
-use Rattle.file_patches.specs.Patching.{operated, patched}
+use Rattle.file_patches.specs.Patching.{operated}
 use Rattle.file_patches.specs.Results.{on_ok}
 use Rattle.patch_words.specs.declared.fault.WordFault.{WordFault}
 use Rattle.patch_words.specs.declared.fault.WordFault.TheVariants as faults
 use Rattle.patch_words.specs.declared.walk.Walk.{Walk}
 use Rattle.patch_words.specs.ToWord.{NoWord, if_done, if_read, first_unread, words_from, to_word}
 use Rattle.patch_words.specs.Laws.{IsAnswer, LeadsTo}
-use Rattle.patch_words.specs.Walks.{Refuses, Makes, unread_view, on_from, GoesOn}
+use Rattle.patch_words.specs.Walks.{Refuses, Makes, unread_view, on_from}
 use Rattle.patch_words.proofs.WordsLead.{flat, patches-lead}
 
 -- ---- the definition, an operation at a time

@@ -6,7 +6,7 @@ use Rattle.json.specs.Json.{Json}
 use Rattle.doc_values.specs.Documents.{DocTree}
 use Rattle.doc_values.specs.Types.{TyTree, is_well_formed}
 use Rattle.doc_values.specs.Typing.{has}
-use Rattle.edit_module.specs.Words.{WordTree, no_primitives, joined}
+use Rattle.edit_module.specs.Words.{WordTree, joined}
 use Rattle.edit_module.specs.Action.{act}
 use Rattle.edit_module.proofs.JoinedWords.{acts_joined}
 use Rattle.edit_between.specs.Between.{between}
@@ -14,7 +14,6 @@ use Rattle.edit_between.proofs.BetweenActs.{between-law}
 use Rattle.file_forms.specs.Forms.{FileFormTree, type_of}
 use Rattle.file_forms.specs.Fitting.{is_fit}
 use Rattle.file_forms.specs.FileValues.{read, write}
-use Rattle.file_forms.specs.Orders.{sorted}
 use Rattle.file_forms.proofs.ComesBack.{comes_back, read_typed}
 use Rattle.file_forms.proofs.WrittenTypes.{typed}
 use Rattle.file_values.specs.Reading.{Misfit, reading}
@@ -22,7 +21,7 @@ use Rattle.file_values.proofs.ReadTrees.{written_is_read}
 use Rattle.file_values.proofs.ReadingReads.{agrees}
 use Rattle.file_patches.specs.declared.fault.Cause.{Cause}
 use Rattle.file_patches.specs.Operations.{OperationTree}
-use Rattle.file_patches.specs.Patching.{operated, patched, patched_from, numbered}
+use Rattle.file_patches.specs.Patching.{operated, patched_from, numbered}
 use Rattle.file_patches.specs.Results.{and_then, on_ok}
 use Rattle.patch_words.specs.ToWord.{NoWord, no_file, not_done, not_read, if_done, if_read, first_unread, words_from, to_word_from, to_word}
 use Rattle.patch_words.specs.Laws.{IsAnswer}

@@ -1,10 +1,9 @@
 -- What the word of a patch does, and what a refusal means. `PatchesLead`, at the end, is the law.
-use Rattle.std.specs.Prelude.{◌≡◌, ℕ, true, List, Option, Some, None, Result, Ok, Err}
+use Rattle.std.specs.Prelude.{◌≡◌, true, List, Some, None, Result, Ok, Err}
 use Rattle.std.specs.Option.{option_flatten}
 use Rattle.json.specs.Json.{Json}
 use Rattle.doc_values.specs.Documents.{DocTree}
 use Rattle.doc_values.specs.Types.{TyTree, is_well_formed}
-use Rattle.doc_values.specs.Typing.{has}
 use Rattle.edit_module.specs.Words.{WordTree}
 use Rattle.edit_module.specs.Action.{act}
 use Rattle.file_forms.specs.Forms.{FileFormTree, type_of}

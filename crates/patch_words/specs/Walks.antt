@@ -1,5 +1,5 @@
 -- What a walk over a patch has made so far, and what a call returns.
-use Rattle.std.specs.Prelude.{◌≡◌, ℕ, ◌+◌, List, ◌∷◌, Option, option_map, Result, Ok, Err}
+use Rattle.std.specs.Prelude.{◌≡◌, ℕ, ◌+◌, List, ◌∷◌, option_map, Result, Ok, Err}
 use Rattle.doc_values.specs.Documents.{doc_tree}
 use Rattle.doc_values.specs.Types.{TyTree}
 use Rattle.edit_module.specs.declared.word.Word.{Word}
