@@ -1,7 +1,7 @@
 -- The word between two documents of a type takes the first to the second.
-use Rattle.std.proofs.Common.{◌≡◌, ℕ, ◌+◌, ◌<◌, ◌≤◌, suc, zero, Bool, true, false, List, [], ◌∷◌, ◌++◌, length, take, drop, get_or, Option, None, Some, Result, Ok, Err, refl, sym, ap, subst, ◌∙◌, arith}
+use Rattle.std.proofs.Common.{◌≡◌, ℕ, ◌+◌, ◌<◌, suc, zero, Bool, true, false, List, [], ◌∷◌, ◌++◌, length, drop, Option, None, Some, Result, Ok, Err, refl, sym, ap, subst, ◌∙◌, arith}
 use Rattle.std.specs.Prelude.{IfOk, if◌then◌else◌, bytes_eq}
-use Rattle.std.proofs.lemmas.List.{append-nil, append_assoc, length-append, length-drop, drop-drop}
+use Rattle.std.proofs.lemmas.List.{append_assoc, length-append, length-drop, drop-drop}
 use Rattle.hold_shapes.specs.declared.shape.Shape.{Shape}
 use Rattle.hold_shapes.specs.declared.shape.Shape.TheVariants.{List as ListOf, Keyed as KeyedOf, Tree as TreeOf}
 use Rattle.hold_shapes.specs.Shapes.{size_of}
@@ -14,22 +14,21 @@ use Rattle.texts.proofs.Tests.{bytes_eq-is}
 use Rattle.doc_values.specs.Documents.{DocTree, unit, truth, int, text, pick, rec, alt, hold, DocTrees, no_docs, more_docs, docs_of, doc_list}
 use Rattle.doc_values.specs.Types.{TyTree, ty_unit, ty_bool, ty_int, ty_text, ty_enum, ty_rec, ty_alt, ty_list, ty_keyed, ty_ordered, FieldTrees, no_fields, more_fields, names_of, is_well_formed, are_well_formed, are_choices}
 use Rattle.doc_values.specs.Typing.{has, has_fields, has_each, lookup_type}
-use Rattle.doc_values.specs.Initial.{initial}
-use Rattle.doc_values.proofs.Lists.{doc_list-docs_of, docs_of-doc_list}
+use Rattle.doc_values.proofs.Lists.{docs_of-doc_list}
 use Rattle.doc_values.proofs.FieldPlaces.{lookup_type-well_formed}
 use Rattle.edit_module.specs.declared.word.Word.{Word}
 use Rattle.edit_module.specs.Views.{word_tree}
-use Rattle.edit_module.specs.Words.{WordTree, no_primitives}
+use Rattle.edit_module.specs.Words.{WordTree}
 use Rattle.edit_module.specs.Action.{act}
 use Rattle.edit_module.proofs.ActionKeepsTypes.{list-held, keyed-held, tree-held}
-use Rattle.edit_inverse.specs.Construct.{construct, construct_each, grow, modify_each, names_in, depths_in}
+use Rattle.edit_inverse.specs.Construct.{construct, construct_each, grow, modify_each}
 use Rattle.edit_inverse.specs.Paths.{paths}
 use Rattle.edit_inverse.proofs.Constructs.{construct-law}
 use Rattle.edit_inverse.proofs.Fills.{Built, rising-front}
 use Rattle.edit_between.specs.Between.{between, between_fields, between_items, between_keys, resized, modify_nodes, prunes, with_root, is_first, first_doc}
 use Rattle.edit_between.proofs.Resized.{Leads, starts, items-act, resized-acts}
 use Rattle.edit_between.proofs.KeySteps.{OnKeys, rising-back, drops-act, rising-drop, rank-splits, key-step, drop-rest, joined-rising, seam-rising}
-use Rattle.edit_between.proofs.NodeSteps.{nodes-act, prunes-act, FromRoot, grow-acts}
+use Rattle.edit_between.proofs.NodeSteps.{nodes-act, prunes-act, grow-acts}
 use Rattle.edit_between.proofs.PartSteps.{unit-acts, bool-acts, int-acts, text-acts, pick-acts, LeadsFields, record-acts, tag-acts}
 
 -- ---- contents of a type, as a list

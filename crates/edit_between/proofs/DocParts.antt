@@ -1,5 +1,5 @@
 -- The trees of documents that were matched, and the types of their parts.
-use Rattle.std.proofs.Common.{◌≡◌, ℕ, true, List, rules, refl, sym, ap, subst, ◌∙◌}
+use Rattle.std.proofs.Common.{◌≡◌, ℕ, true, List, rules, ap, subst, ◌∙◌}
 use Rattle.std.specs.declared.alloc.Global.{Global}
 use Rattle.std.specs.declared.boxed.Box.{Box}
 use Rattle.doc_values.specs.declared.doc.Doc.{Doc, the_lemmas}

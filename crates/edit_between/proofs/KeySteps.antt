@@ -1,5 +1,5 @@
 -- Keyed maps whose keys go and come, one after another in byte order.
-use Rattle.std.proofs.Common.{◌≡◌, ℕ, ◌+◌, ◌<◌, ◌≤◌, suc, zero, Bool, true, false, List, [], ◌∷◌, ◌++◌, length, get_or, take, drop, Option, None, Some, Ok, refl, sym, ap, subst, ◌∙◌, arith}
+use Rattle.std.proofs.Common.{◌≡◌, ℕ, ◌+◌, ◌<◌, ◌≤◌, suc, zero, Bool, true, false, List, [], ◌∷◌, ◌++◌, length, get_or, take, drop, None, Some, Ok, refl, sym, ap, subst, ◌∙◌, arith}
 use Rattle.std.specs.Prelude.{if◌then◌else◌, bytes_eq}
 use Rattle.std.specs.List.{insert, remove}
 use Rattle.std.proofs.lemmas.List.{append_assoc, length-append, drop_all, drop_more}
@@ -7,7 +7,6 @@ use Rattle.std.proofs.Math.Seq.{get_or-append_seam}
 use Rattle.hold_shapes.specs.declared.shape.Shape.TheVariants.{Keyed as KeyedOf}
 use Rattle.hold_shapes.specs.declared.edit.Place.TheVariants.{Key}
 use Rattle.hold_shapes.specs.declared.edit.ShapeEdit.TheVariants.{DropKey, PutKey}
-use Rattle.hold_shapes.specs.Shapes.{place_of}
 use Rattle.texts.specs.Keys.{is_rising, all_after, is_before, key_rank, key_place}
 use Rattle.texts.proofs.Conjunction.{both}
 use Rattle.texts.proofs.KeyOrder.{bytes_eq-refl, before-total, rising-first, rising-rest, rising-remove, key_place-found, after-tail, rank-none}
@@ -20,7 +19,7 @@ use Rattle.edit_module.specs.Action.{act}
 use Rattle.edit_inverse.specs.Construct.{reshape, unless_empty}
 use Rattle.edit_inverse.proofs.ContainerKinds as kinds
 use Rattle.edit_inverse.proofs.Moves.{Makes}
-use Rattle.edit_inverse.proofs.Fills.{put-makes, rising-front}
+use Rattle.edit_inverse.proofs.Fills.{put-makes}
 use Rattle.edit_inverse.proofs.KeyEdits.{drop-makes, key-gone, key-home}
 use Rattle.edit_inverse.proofs.Acts.{acts-more, acts-shape, acts-there}
 use Rattle.edit_between.specs.Between.{drop_keys, is_first, first_doc}

@@ -1,14 +1,13 @@
 -- Ordered trees whose nodes are acted on one after another, or go and come.
 use Rattle.std.proofs.Common.{◌≡◌, ℕ, ◌+◌, ◌-◌, ◌<◌, ◌≤◌, suc, zero, Bool, true, false, List, [], ◌∷◌, ◌++◌, length, take, drop, Option, None, Some, Ok, Err, refl, sym, ap, subst, ◌∙◌, arith}
-use Rattle.std.specs.Prelude.{if◌then◌else◌, nat_eq, nat_lt, is_some}
+use Rattle.std.specs.Prelude.{if◌then◌else◌, nat_eq, is_some}
 use Rattle.std.proofs.lemmas.Bool.Decides.{nat_tests}
 use Rattle.std.proofs.lemmas.List.{append-nil, append_assoc, length-append}
 use Rattle.hold_shapes.specs.declared.shape.Shape.TheVariants.{Tree as TreeOf}
 use Rattle.hold_shapes.specs.declared.edit.Place.TheVariants.{Node}
 use Rattle.hold_shapes.specs.declared.edit.ShapeEdit.TheVariants.{Prune}
 use Rattle.hold_shapes.specs.Causes.{Range}
-use Rattle.hold_shapes.specs.Shapes.{place_of}
-use Rattle.hold_shapes.specs.Trees.{node, child, children, children_of, end_of}
+use Rattle.hold_shapes.specs.Trees.{child, children, children_of, end_of}
 use Rattle.hold_shapes.specs.Plans.{plan, old_places, remove_part, prune_child}
 use Rattle.hold_shapes.proofs.ValidDepths.{GoesOn, Low, Whole, above-end, whole-out}
 use Rattle.hold_shapes.proofs.ChildPlaces.{child-at, length-remove_part}
@@ -18,7 +17,7 @@ use Rattle.law_shapes.proofs.Children.{children-less}
 use Rattle.doc_values.specs.Documents.{DocTree, hold, docs_of}
 use Rattle.doc_values.specs.Types.{TyTree, ty_ordered}
 use Rattle.doc_values.specs.Initial.{initial}
-use Rattle.edit_module.specs.Words.{modify, shape, WordTree}
+use Rattle.edit_module.specs.Words.{shape, WordTree}
 use Rattle.edit_module.specs.Action.{act}
 use Rattle.edit_inverse.specs.Construct.{reshape, graft_each, grow}
 use Rattle.edit_inverse.specs.Paths.{next_path, paths_after, paths}

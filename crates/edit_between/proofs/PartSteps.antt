@@ -18,7 +18,7 @@ use Rattle.doc_values.proofs.Lists.{doc_list-docs_of, docs_of-doc_list}
 use Rattle.edit_module.specs.declared.atom.Atom.{Atom}
 use Rattle.edit_module.specs.declared.atom.Atom.TheVariants.{Truth, Number, Letters}
 use Rattle.edit_module.specs.declared.fault.Cause.{Cause}
-use Rattle.edit_module.specs.declared.fault.Cause.TheVariants.{Place, Tag, Value}
+use Rattle.edit_module.specs.declared.fault.Cause.TheVariants.{Place, Tag}
 use Rattle.edit_module.specs.Words.{set as set_to, at, stay, switch, WordTree, no_primitives}
 use Rattle.edit_module.specs.Action.{Why, act, act_primitive, inner, map_ok, if_present, put_result_at, doc_at}
 use Rattle.edit_inverse.specs.Construct.{only, set_unless, unless_empty, at_each, construct}

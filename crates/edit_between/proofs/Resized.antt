@@ -1,6 +1,6 @@
 -- Lists whose size changes, and whose items are acted on one after another.
-use Rattle.std.proofs.Common.{◌≡◌, ℕ, ◌+◌, ◌-◌, ◌*◌, ◌/◌, ◌%◌, ◌<◌, ◌≤◌, suc, zero, Bool, true, false, List, [], ◌∷◌, ◌++◌, length, get_or, take, replicate, Some, Ok, Err, refl, sym, ap, subst, ◌∙◌, arith}
-use Rattle.std.specs.Prelude.{if◌then◌else◌, nat_lt, nat_eq, nat_le, ◌&&◌}
+use Rattle.std.proofs.Common.{◌≡◌, ℕ, ◌+◌, ◌-◌, ◌*◌, ◌/◌, ◌%◌, ◌<◌, ◌≤◌, suc, zero, Bool, true, false, List, [], ◌∷◌, ◌++◌, length, take, replicate, Some, Ok, Err, refl, sym, ap, subst, ◌∙◌, arith}
+use Rattle.std.specs.Prelude.{if◌then◌else◌, nat_lt, nat_eq, nat_le}
 use Rattle.std.proofs.lemmas.Bool.Decides.{nat_tests}
 use Rattle.std.proofs.lemmas.List.{append-nil, append_assoc, length-append, length-replicate, take_all, length-take-le}
 use Rattle.std.proofs.lemmas.Nat.{div-add-mod', mod_below}
@@ -11,7 +11,7 @@ use Rattle.hold_shapes.specs.Shapes.{place_of}
 use Rattle.hold_shapes.specs.Plans.{list_of, is_count, old_places, plan}
 use Rattle.hold_shapes.specs.declared.lists.TheConstants.{MOST_ITEMS}
 use Rattle.texts.proofs.Conjunction.{both}
-use Rattle.doc_values.specs.Documents.{DocTree, unit, hold, docs_of}
+use Rattle.doc_values.specs.Documents.{DocTree, hold, docs_of}
 use Rattle.doc_values.specs.Types.{TyTree, ty_list}
 use Rattle.doc_values.specs.Initial.{initial}
 use Rattle.edit_module.specs.Words.{shape, WordTree}

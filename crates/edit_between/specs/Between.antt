@@ -1,7 +1,7 @@
 -- A word that takes a document to another one of its type.
 -- Read it from the end: `between` has a line for each type.
-use Rattle.std.specs.Prelude.{ℕ, zero, suc, ◌+◌, ◌-◌, ◌/◌, ◌%◌, Bool, true, false, List, [], ◌∷◌, map, take, drop, length}
-use Rattle.std.specs.Prelude.{Option, None, Some, if◌then◌else◌, nat_eq, bytes_eq, slice_index_or}
+use Rattle.std.specs.Prelude.{ℕ, zero, suc, ◌+◌, ◌-◌, ◌/◌, ◌%◌, Bool, false, List, [], ◌∷◌, take, drop}
+use Rattle.std.specs.Prelude.{None, Some, if◌then◌else◌, nat_eq, bytes_eq, slice_index_or}
 use Rattle.std.specs.Bool.{beq}
 use Rattle.std.specs.Ordering.{int_eq}
 use Rattle.texts.specs.Keys.{key_rank}

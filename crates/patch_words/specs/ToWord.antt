@@ -37,8 +37,9 @@ abbrev pub first_unread : Option (ℕ × Misfit) → ℕ → Misfit → Option (
 first_unread None n m = Some (n, m)
 first_unread (Some u) n m = Some u
 
--- The words of the pieces of a patch, joined. A piece ends where the file is read again, and its word is the one between
--- the documents. The operations are numbered from n on; d is the last document that was read, and j the file now.
+-- The words of the pieces of a patch, joined. A piece ends where the file is read again, and its word is the one
+-- between the documents. The operations are numbered from n on; d is the last document that was read, and j the file
+-- now.
 abbrev pub words_from : TyTree → FileFormTree → ℕ → Option (ℕ × Misfit) → DocTree → Json → List OperationTree
     → Result WordTree NoWord
 words_from t f n None d j [] = Ok no_primitives

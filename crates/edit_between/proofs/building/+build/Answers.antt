@@ -1,4 +1,4 @@
-use Rattle.std.proofs.Common.{◌≡◌, ℕ, Bool, true, List, [], ◌+◌, ◌<◌, ◌≤◌, get_or, refl, subst, map, take, drop, length, ap, sym, ◌∙◌, arith}
+use Rattle.std.proofs.Common.{◌≡◌, ℕ, Bool, List, [], ◌+◌, ◌<◌, ◌≤◌, get_or, refl, subst, map, take, drop, length, ap, sym, ◌∙◌, arith}
 use Rattle.hold_shapes.specs.declared.edit.Place.TheVariants.{Index, Node}
 use Rattle.hold_shapes.specs.declared.edit.ShapeEdit.TheVariants.{Graft}
 use Rattle.hold_shapes.proofs.SharedItems.{item-at}
@@ -6,7 +6,7 @@ use Rattle.hold_shapes.proofs.ValidDepths.{GoesOn, valid-some}
 use Rattle.texts.specs.Keys.{key_rank}
 use Rattle.texts.proofs.Tests.{bytes_eq-is}
 use Rattle.doc_values.specs.declared.doc.Doc.{Doc}
-use Rattle.doc_values.specs.Documents.{DocTree, rec, alt, DocTrees, doc_tree, docs_tree, docs_of, doc_list}
+use Rattle.doc_values.specs.Documents.{DocTree, rec, alt, DocTrees, doc_tree, docs_tree, doc_list}
 use Rattle.doc_values.specs.Types.{FieldTrees, ty_tree, fields_tree, ty_rec, ty_alt, names_of, highest}
 use Rattle.doc_values.specs.Typing.{has, has_fields, lookup_field}
 use Rattle.doc_values.proofs.FieldPlaces.{lookup_field-height}
@@ -21,7 +21,7 @@ use Rattle.edit_inverse.specs.Paths.{parent_path, next_path, paths, paths_after}
 use Rattle.edit_inverse.proofs.Building.{fields_of, same_many, field_typed, fields-done, each_typed, goes-first, goes-next}
 use Rattle.edit_inverse.proofs.Building as anew
 use Rattle.edit_between.specs.Between.{between, between_fields, between_items, between_keys, modify_nodes, with_root, drop_keys, is_first}
-use Rattle.edit_between.specs.Steps.{item_word, key_word}
+use Rattle.edit_between.specs.Steps.{key_word}
 use Rattle.edit_between.proofs.BetweenLoops.{item-modified, items-done, field-next, keys_left, key-next, keys-done, node-next, nodes-done, root-first, root-anew, there-within, rank-within, place-behind}
 use Rattle.edit_between.proofs.DocParts.{rec-is, alt-is, has-as}
 use Rattle.edit_between.proofs.building.+build.Goals as goal
@@ -119,9 +119,8 @@ of_tag-build-requires t c =
 
 pub with_items-of_item-requires : goal.with_items-of_item-requires
 with_items-of_item-requires t c =
-    let es = docs_tree c.args.news.now in
-    let within : c.loop-i.i < length (doc_list es) = omega (arith, c.len-i-end.ensures, c.loop-i-test.true) in
-    (omega arith, (c.requires.from, each_typed (ty_tree c.args.inner.now) es c.loop-i.i (doc_tree c.get.result.now) within c.get.ensures c.requires.to))
+    let within : c.loop-i.i < length (doc_list (docs_tree c.args.news.now)) = omega (arith, c.len-i-end.ensures, c.loop-i-test.true) in
+    (omega arith, (c.requires.from, each_typed (ty_tree c.args.inner.now) (docs_tree c.args.news.now) c.loop-i.i (doc_tree c.get.result.now) within c.get.ensures c.requires.to))
 
 pub with_items-loop-i-preserved : goal.with_items-loop-i-preserved
 with_items-loop-i-preserved t c =
@@ -148,9 +147,8 @@ with_items-returns t c =
 
 pub of_item-build-requires : goal.of_item-build-requires
 of_item-build-requires t c =
-    let ds = docs_tree c.args.olds.now in
-    let within : c.args.place < length (doc_list ds) = omega (arith, c.len.ensures, c.if-place-len.true) in
-    (omega arith, (each_typed (ty_tree c.args.inner.now) ds c.args.place (doc_tree c.get.result.now) within c.get.ensures c.requires.from, c.requires.to))
+    let within : c.args.place < length (doc_list (docs_tree c.args.olds.now)) = omega (arith, c.len.ensures, c.if-place-len.true) in
+    (omega arith, (each_typed (ty_tree c.args.inner.now) (docs_tree c.args.olds.now) c.args.place (doc_tree c.get.result.now) within c.get.ensures c.requires.from, c.requires.to))
 
 -- ---- keys
 
@@ -264,17 +262,15 @@ with_nodes-of_item-requires-in-loop-i t c =
 
 pub with_nodes-next_path-requires-clause-some : goal.with_nodes-next_path-requires-clause-some
 with_nodes-next_path-requires-clause-some t c =
-    let es = c.args.depths.now in
     let d = c.get-in-loop-i-2.result.now in
-    let there : c.loop-i.i < length es = omega (arith, c.requires.many, c.len-i-end.ensures, c.loop-i-test.true) in
-    (goes-next c.loop-i.path.items es c.loop-i.i d there (item-at es c.loop-i.i d d c.get-in-loop-i-2.ensures) c.loop-i.invariant.goes).0
+    let there : c.loop-i.i < length c.args.depths.now = omega (arith, c.requires.many, c.len-i-end.ensures, c.loop-i-test.true) in
+    (goes-next c.loop-i.path.items c.args.depths.now c.loop-i.i d there (item-at c.args.depths.now c.loop-i.i d d c.get-in-loop-i-2.ensures) c.loop-i.invariant.goes).0
 
 pub with_nodes-next_path-requires-clause-most : goal.with_nodes-next_path-requires-clause-most
 with_nodes-next_path-requires-clause-most t c =
-    let es = c.args.depths.now in
     let d = c.get-in-loop-i-2.result.now in
-    let there : c.loop-i.i < length es = omega (arith, c.requires.many, c.len-i-end.ensures, c.loop-i-test.true) in
-    (goes-next c.loop-i.path.items es c.loop-i.i d there (item-at es c.loop-i.i d d c.get-in-loop-i-2.ensures) c.loop-i.invariant.goes).1
+    let there : c.loop-i.i < length c.args.depths.now = omega (arith, c.requires.many, c.len-i-end.ensures, c.loop-i-test.true) in
+    (goes-next c.loop-i.path.items c.args.depths.now c.loop-i.i d there (item-at c.args.depths.now c.loop-i.i d d c.get-in-loop-i-2.ensures) c.loop-i.invariant.goes).1
 
 pub with_nodes-loop-i-preserved : goal.with_nodes-loop-i-preserved
 with_nodes-loop-i-preserved t c =
@@ -310,13 +306,11 @@ with_nodes-loop-i-preserved t c =
 pub with_nodes-returns : goal.with_nodes-returns
 with_nodes-returns t c =
     let l = c.loop-i in
-    let ds = docs_tree c.args.olds.now in
-    let cs = docs_tree c.args.news.now in
     let es = c.args.depths.now in
     let past : length es ≤ l.i = omega (arith, c.requires.many, c.len-i-end.ensures, c.loop-i-test.false) in
     let word = word_of (map primitive_tree l.out.items) in
     c.from_vec.ensures
-    ∙ (sym (joined_nothing word) ∙ (ap (joined word) (sym (nodes-done l.path.items es (drop l.i (between_items (ty_tree c.args.inner.now) ds cs)) l.i past)) ∙ l.invariant.left))
+    ∙ (sym (joined_nothing word) ∙ (ap (joined word) (sym (nodes-done l.path.items es (drop l.i (between_items (ty_tree c.args.inner.now) (docs_tree c.args.olds.now) (docs_tree c.args.news.now))) l.i past)) ∙ l.invariant.left))
 
 pub with_new_nodes-loop-i-init : goal.with_new_nodes-loop-i-init
 with_new_nodes-loop-i-init t c =
@@ -352,17 +346,15 @@ with_new_nodes-construct-requires t c =
 
 pub with_new_nodes-next_path-requires-clause-some : goal.with_new_nodes-next_path-requires-clause-some
 with_new_nodes-next_path-requires-clause-some t c =
-    let es = c.args.depths.now in
     let d = c.get-in-loop-i-2.result.now in
-    let there : c.loop-i.i < length es = omega (arith, c.requires.many, c.len-i-end.ensures, c.loop-i-test.true) in
-    (goes-next c.loop-i.path.items es c.loop-i.i d there (item-at es c.loop-i.i d d c.get-in-loop-i-2.ensures) c.loop-i.invariant.goes).0
+    let there : c.loop-i.i < length c.args.depths.now = omega (arith, c.requires.many, c.len-i-end.ensures, c.loop-i-test.true) in
+    (goes-next c.loop-i.path.items c.args.depths.now c.loop-i.i d there (item-at c.args.depths.now c.loop-i.i d d c.get-in-loop-i-2.ensures) c.loop-i.invariant.goes).0
 
 pub with_new_nodes-next_path-requires-clause-most : goal.with_new_nodes-next_path-requires-clause-most
 with_new_nodes-next_path-requires-clause-most t c =
-    let es = c.args.depths.now in
     let d = c.get-in-loop-i-2.result.now in
-    let there : c.loop-i.i < length es = omega (arith, c.requires.many, c.len-i-end.ensures, c.loop-i-test.true) in
-    (goes-next c.loop-i.path.items es c.loop-i.i d there (item-at es c.loop-i.i d d c.get-in-loop-i-2.ensures) c.loop-i.invariant.goes).1
+    let there : c.loop-i.i < length c.args.depths.now = omega (arith, c.requires.many, c.len-i-end.ensures, c.loop-i-test.true) in
+    (goes-next c.loop-i.path.items c.args.depths.now c.loop-i.i d there (item-at c.args.depths.now c.loop-i.i d d c.get-in-loop-i-2.ensures) c.loop-i.invariant.goes).1
 
 pub with_new_nodes-loop-i-preserved : goal.with_new_nodes-loop-i-preserved
 with_new_nodes-loop-i-preserved t c =
@@ -399,9 +391,8 @@ with_new_nodes-loop-i-preserved t c =
 pub with_new_nodes-returns : goal.with_new_nodes-returns
 with_new_nodes-returns t c =
     let l = c.loop-i in
-    let cs = docs_tree c.args.news.now in
     let es = c.args.depths.now in
     let past : length es ≤ l.i = omega (arith, c.requires.many, c.len-i-end.ensures, c.loop-i-test.false) in
     let word = word_of (map primitive_tree l.out.items) in
     c.from_vec.ensures
-    ∙ (sym (joined_nothing word) ∙ (ap (joined word) (sym (anew.nodes-done l.path.items es (drop l.i (construct_each (ty_tree c.args.inner.now) cs)) l.i past)) ∙ l.invariant.left))
+    ∙ (sym (joined_nothing word) ∙ (ap (joined word) (sym (anew.nodes-done l.path.items es (drop l.i (construct_each (ty_tree c.args.inner.now) (docs_tree c.args.news.now))) l.i past)) ∙ l.invariant.left))

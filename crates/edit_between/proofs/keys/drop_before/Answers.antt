@@ -1,10 +1,8 @@
-use Rattle.std.proofs.Common.{◌≡◌, ℕ, ◌+◌, ◌<◌, suc, false, true, List, ◌∷◌, map, take, drop, length, sym, ap, ◌∙◌, arith}
-use Rattle.texts.specs.Keys.{is_before, key_rank}
+use Rattle.std.proofs.Common.{ℕ, ◌+◌, ◌<◌, suc, List, map, take, drop, length, sym, ap, ◌∙◌, arith}
+use Rattle.texts.specs.Keys.{key_rank}
 use Rattle.hold_shapes.proofs.SharedItems.{item-at}
-use Rattle.hold_shapes.specs.declared.edit.ShapeEdit.TheVariants.{DropKey}
 use Rattle.edit_module.specs.Words.{WordTree, word_of, joined}
 use Rattle.edit_module.specs.Views.{primitive_tree}
-use Rattle.edit_inverse.specs.Construct.{reshape}
 use Rattle.edit_between.specs.Between.{drop_keys}
 use Rattle.edit_between.proofs.KeySteps.{rank-next, rank-stop}
 use Rattle.edit_between.proofs.keys.drop_before.Goals as goal
