@@ -1,4 +1,4 @@
-"""Writes the cases of case_seals. reference/CASES.md says what a line means, and docs/FORMATS.md how a record is sealed."""
+"""Writes the cases of case_seals. reference/CASES.md says what a line means, and docs/MEANING.md how a record is sealed."""
 
 import random
 

@@ -2,7 +2,8 @@
 -- Read it from the end: `carried`, then `carried_ins`, `carried_move`, `carried_del` and `carried_reorder`. Of an
 -- edit of the far list: `led_on`.
 use Rattle.std.specs.Prelude.{ℕ, zero, suc, ◌+◌, ◌-◌, Bool, true, false, if◌then◌else◌, ◌&&◌, List, [], ◌∷◌, ◌++◌}
-use Rattle.std.specs.Prelude.{length, map, drop, replicate, Option, Some, None, option_map, nat_eq, nat_lt, nat_le, slice_index_or}
+use Rattle.std.specs.Prelude.{length, map, drop, replicate, Option, Some, None, option_map, nat_eq, nat_lt, nat_le}
+use Rattle.std.specs.Prelude.{slice_index_or}
 use Rattle.hold_shapes.specs.declared.edit.ShapeEdit.{ShapeEdit}
 use Rattle.hold_shapes.specs.declared.edit.ShapeEdit.TheVariants.{Ins, Del, MoveItem, Reorder}
 use Rattle.hold_shapes.specs.Plans.{has_number}

@@ -11,7 +11,8 @@ ghost use Rattle.bridge_links.specs.declared.link.Link.{Link};
 ghost use Rattle.bridge_links.specs.declared.link.Link.TheVariants.{Stays};
 ghost use Rattle.bridge_links.specs.Links.{same_places, moved_place, gathered, link_at, far_at};
 ghost use Rattle.bridge_links.specs.Spans.{SpansBy};
-ghost use Rattle.bridge_lists.specs.Carried.{Carried, longer, far_place, carried, carried_ins, carried_move, carried_del};
+ghost use Rattle.bridge_lists.specs.Carried.{Carried, longer, far_place, carried, carried_ins, carried_move};
+ghost use Rattle.bridge_lists.specs.Carried.{carried_del};
 ghost use Rattle.bridge_lists.specs.Carried.{carried_reorder};
 ghost use Rattle.bridge_lists.specs.Laws.{edited, all_edited, MovesLost, CarriesBy};
 
