@@ -1,4 +1,5 @@
--- Bridges in a row, each from a document to the next. In order: `Leads`, `SumsFit`, `ChainsRefuseOnlyGone`, `ChainsAct`.
+-- Bridges in a row, each from a document to the next. In order: `Leads`, `SumsFit`, `ChainsRefuseOnlyGone`,
+-- `ChainsAct`.
 use Rattle.std.specs.Prelude.{◌≡◌, List, [], ◌∷◌, Ok, Err}
 use Rattle.doc_values.specs.Documents.{DocTree}
 use Rattle.doc_values.specs.Types.{TyTree}
