@@ -83,8 +83,8 @@ pub fn create_sealed_log<D: Disk>(disk: &mut D) -> Result<SealedLog, LogFault>
 /// nothing.
 ///
 /// - `NotALog`: if and only if the disk has fewer than 9 bytes or does not begin with the mark.
-/// - `BadRecord`: if and only if this record's gate is open and the record passes the end of the disk; or no record does,
-///   and this one is the first that is not sealed with its number behind the one before.
+/// - `BadRecord`: if and only if this record's gate is open and the record passes the end of the disk; or no record
+///   does, and this one is the first that is not sealed with its number behind the one before.
 /// - `DiskFault`: only if the disk's count of faults increased.
 /// - `NoMemory`: only if memory ran out.
 pub fn open_sealed_log<D: Disk>(alloc: Global, disk: &mut D) -> Result<OpenedLog, LogFault>
