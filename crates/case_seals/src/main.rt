@@ -1,7 +1,6 @@
 //! Reads questions about sealed records from the standard input, one a line with the answer that is wanted, and
 //! compares each with what comes. It prints the number of cases and how many differ, and for each of these the line and
-//! what came.
-//! reference/CASES.md says what the lines mean.
+//! what came. reference/CASES.md says what the lines mean.
 #![tactic(auto)]
 
 mod cases;

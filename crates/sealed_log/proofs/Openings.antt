@@ -20,17 +20,6 @@ holds_sealed content stored held is h = subst (λ (all : List (List ℕ)). IfSom
 pub length_unsealed : (stored held : List (List ℕ)) → unsealed stored ≡ Ok held → length held ≡ length stored
 length_unsealed stored held is = sym (ap length (sealed-unsealed 0 1 stored held is) ∙ length-sealed_list held)
 
--- records that are no payloads are a log with a bad record
-pub bad_log : (content : Option (List ℕ)) (stored : List (List ℕ)) (number : ℕ) → unsealed stored ≡ Err number → IfSome content (HoldsPayloads stored)
-    → IfSome content (λ bytes. sealed_log_of bytes ≡ bad_record number)
-bad_log None stored number is h = tt
-bad_log (Some bytes) stored number is h = ap unsealed_log h ∙ ap log_of_unsealed is
-
--- a log that is not one of records at all
-pub no_log : (content : Option (List ℕ)) (log : LogContent) → IfSome content (λ bytes. log_of bytes ≡ log) → IfSome content (λ bytes. sealed_log_of bytes ≡ unsealed_log log)
-no_log None log h = tt
-no_log (Some bytes) log h = ap unsealed_log h
-
 -- sealed records are never bad
 pub never_bad : (content : Option (List ℕ)) (stored held : List (List ℕ)) (number : ℕ) → IfSome content (HoldsPayloads stored) → IfSome content (HoldsSealed held) → unsealed stored ≡ Err number → IfSome content (λ _. ⊥)
 never_bad None stored held number h s is = tt

@@ -1,6 +1,6 @@
 -- Payloads that are sealed or unsealed one by one.
-use Rattle.std.proofs.Common.{◌≡◌, ℕ, suc, ◌+◌, ◌<◌, ◌≤◌, List, [], ◌∷◌, ◌++◌, length, get_or, drop, Result, Ok, Err, Option, Some, None, refl, sym, ap, ap₂, ◌∙◌, arith, append_assoc, append-nil}
-use Rattle.std.proofs.lemmas.List.{at_drop_more, at_drop_all}
+use Rattle.std.proofs.Common.{◌≡◌, ℕ, suc, ◌+◌, ◌<◌, List, [], ◌∷◌, ◌++◌, length, get_or, drop, Result, Ok, Err, Option, Some, None, refl, sym, ap, ap₂, ◌∙◌, arith, append_assoc}
+use Rattle.std.proofs.lemmas.List.{at_drop_more}
 use Rattle.sealed_log.specs.SealedRecords.{seal_of, sealed_record, opened_record}
 use Rattle.sealed_log.specs.SealedLists.{sealed_from, last_seal_from, behind_payload, unsealed_next, unsealed_from}
 use Rattle.sealed_log.proofs.OpenedRecords.{opened-sealed, opened-some}
@@ -17,11 +17,6 @@ sealed-more payloads out before i it within is =
     append_assoc out (sealed_record before (i + 1) it ∷ []) (sealed_from (seal_of before (i + 1) it) (i + 1 + 1) (drop (i + 1) payloads))
     ∙ ap (λ (x : List ℕ). out ++ sealed_from before (i + 1) (x ∷ drop (i + 1) payloads)) is
     ∙ ap (λ (rest : List (List ℕ)). out ++ rest) (sym here)
-
--- no payload more
-pub sealed-all : (payloads out : List (List ℕ)) (before i : ℕ) → length payloads ≤ i → out ++ sealed_from before (i + 1) (drop i payloads) ≡ out
-sealed-all payloads out before i past =
-    ap (λ (rest : List (List ℕ)). out ++ rest) (at_drop_all (sealed_from before (i + 1)) payloads i past) ∙ append-nil out
 
 -- ---- unsealing
 
@@ -58,11 +53,6 @@ unsealed-bad stored out before i it within is opened =
     let found : unsealed_next next before (i + 1) (opened_record before (i + 1) (get_or stored i it)) ≡ Err (i + 1) =
     ap (λ (x : List ℕ). unsealed_next next before (i + 1) (opened_record before (i + 1) x)) (sym is) ∙ ap (unsealed_next next before (i + 1)) opened in
     ap (behind_payloads out) (here ∙ found)
-
--- no record more
-pub unsealed-all : (stored out : List (List ℕ)) (before i : ℕ) → length stored ≤ i → behind_payloads out (unsealed_from before (i + 1) (drop i stored)) ≡ Ok out
-unsealed-all stored out before i past =
-    ap (behind_payloads out) (at_drop_all (unsealed_from before (i + 1)) stored i past) ∙ ap Ok (append-nil out)
 
 pub behind-none : (rest : Result (List (List ℕ)) ℕ) → behind_payloads [] rest ≡ rest
 behind-none (Ok rest) = refl
