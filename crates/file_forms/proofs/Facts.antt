@@ -26,6 +26,11 @@ pub if_then : {X : Type 0} (b : Bool) (o : Option X) (y : X) → cond b o None �
 if_then true o y h = (refl, h)
 if_then false o y h = cc
 
+-- the case of a choice
+pub chosen : {X : Type 0} (b : Bool) (p q : Option X) (x : X) (P : Type 0) → (p ≡ Some x → P) → (q ≡ Some x → P) → cond b p q ≡ Some x → P
+chosen true p q x P f g h = f h
+chosen false p q x P f g h = g h
+
 -- a choice by one test is as its cases are
 pub choice : {X Y : Type 0} (b : Bool) (p q x : X) (r t y : Y) → (p ≡ x → r ≡ y) → (q ≡ x → t ≡ y) → cond b p q ≡ x → cond b r t ≡ y
 choice true p q x r t y f g h = f h

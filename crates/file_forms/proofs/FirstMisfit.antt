@@ -1,16 +1,19 @@
 -- A form is fit if and only if it has no misfit.
-use Rattle.std.proofs.Common.{◌≡◌, ◌↔◌, ℕ, Bool, true, false, not, ◌&&◌, ◌||◌, cond, List, [], ◌∷◌, Option, Some, None, option_map, Result, Ok, Err, IfOk, refl, sym, ap, ◌∙◌}
+use Rattle.std.proofs.Common.{◌≡◌, ◌↔◌, ℕ, Bool, true, false, not, ◌&&◌, ◌||◌, cond, bytes_eq, List, [], ◌∷◌, Option, Some, None, option_map, Result, Ok, Err, IfOk, refl, sym, ap, ◌∙◌}
 use Rattle.std.specs.declared.alloc.AllocError.{AllocError}
 use Rattle.texts.specs.Keys.{is_before, is_rising, has_name}
 use Rattle.texts.proofs.Conjunction.{both, first as left, second as right}
-use Rattle.doc_values.specs.Types.{are_distinct}
+use Rattle.doc_values.specs.Types.{are_distinct, are_same_names}
 use Rattle.file_forms.specs.declared.literal.Literal.{Literal}
-use Rattle.file_forms.specs.Forms.{FileFormTree, as_literal, as_truths, as_words, as_object, as_tagged, as_bare, as_items, as_map, FormFields, no_forms, more_forms, form_names, word_names, word_literals}
+use Rattle.file_forms.specs.declared.held.Held.{Held}
+use Rattle.file_forms.specs.Beside.{has_members, claims, stands_in, stands, all_stand}
+use Rattle.file_forms.specs.Forms.{FileFormTree, as_literal, as_truths, as_words, as_object, as_tagged, as_bare, as_kinded, as_items, as_map, FormFields, no_forms, more_forms, form_names, word_names, word_literals}
 use Rattle.file_forms.specs.Slots.{literal_slot, is_literal, is_any, meets_any, are_told_apart}
-use Rattle.file_forms.specs.Fitting.{is_writable, are_writable, are_unlike, is_fit, are_fit}
-use Rattle.file_forms.specs.Misfits.{misfit_view, inside, at_field, first_of, not_after, out_of_order, tag_twice, same_slot, member_twice, same_literal, not_writable, literal_misfit, truths_misfit, words_misfit, first_misfit, part_misfit}
+use Rattle.file_forms.specs.Fitting.{is_writable, are_writable, are_unlike, are_words, is_fit, are_fit}
+use Rattle.file_forms.specs.Misfits.{misfit_view, inside, at_field, first_of, not_after, out_of_order, tag_twice, same_slot, member_twice, same_literal, not_writable, literal_misfit, truths_misfit, words_misfit, held_fault, held_misfit, kinds_misfit, first_misfit, part_misfit}
 use Rattle.file_forms.specs.declared.misfit.FormMisfit.{FormMisfit}
-use Rattle.file_forms.specs.declared.misfit.FormFault.TheVariants.{FieldOrder, TagTwice, SameSlot, NotANumber, MemberTwice, SameLiteral}
+use Rattle.file_forms.specs.declared.misfit.FormFault.TheVariants.{FieldOrder, TagTwice, SameSlot, NotANumber, SameLiteral, OtherTags, NotAnObject, MemberTwice}
+use Rattle.file_forms.specs.declared.misfit.FormFault.{FormFault}
 use Rattle.file_forms.specs.declared.misfit.FormStep.TheVariants.{Named, Inside}
 
 -- ---- options
@@ -162,10 +165,10 @@ words_fit : (ws : List (List ℕ × Literal)) → words_misfit ws ≡ None → (
 words_fit ws h =
     let same = option_map (at_field SameLiteral) (same_literal ws) in
     let letters = option_map (at_field NotANumber) (not_writable ws) in
-    let p = neither (option_map (at_field MemberTwice) (member_twice ws)) (first_of same letters) h in
+    let p = neither (option_map (at_field TagTwice) (member_twice ws)) (first_of same letters) h in
     let q = neither same letters p.1 in
     both (are_distinct (word_names ws)) (are_unlike (word_literals ws) && are_writable (word_literals ws))
-    (members_differ ws (map_none (at_field MemberTwice) (member_twice ws) p.0))
+    (members_differ ws (map_none (at_field TagTwice) (member_twice ws) p.0))
     (both (are_unlike (word_literals ws)) (are_writable (word_literals ws))
     (literals_differ ws (map_none (at_field SameLiteral) (same_literal ws) q.0)) (writable ws (map_none (at_field NotANumber) (not_writable ws) q.1)))
 
@@ -174,12 +177,54 @@ words_fit_back ws h =
     let same = option_map (at_field SameLiteral) (same_literal ws) in
     let letters = option_map (at_field NotANumber) (not_writable ws) in
     let literals = right (are_distinct (word_names ws)) (are_unlike (word_literals ws) && are_writable (word_literals ws)) h in
-    neither_back (option_map (at_field MemberTwice) (member_twice ws)) (first_of same letters)
-    (map_none_back (at_field MemberTwice) (member_twice ws)
+    neither_back (option_map (at_field TagTwice) (member_twice ws)) (first_of same letters)
+    (map_none_back (at_field TagTwice) (member_twice ws)
     (members_differ_back ws (left (are_distinct (word_names ws)) (are_unlike (word_literals ws) && are_writable (word_literals ws)) h)))
     (neither_back same letters
     (map_none_back (at_field SameLiteral) (same_literal ws) (literals_differ_back ws (left (are_unlike (word_literals ws)) (are_writable (word_literals ws)) literals)))
     (map_none_back (at_field NotANumber) (not_writable ws) (writable_back ws (right (are_unlike (word_literals ws)) (are_writable (word_literals ws)) literals))))
+
+-- ---- kinds
+
+stand_fit : (i : Option (List ℕ)) (n : List ℕ) (f : FileFormTree) → held_fault n i f ≡ None → stands_in i n f ≡ true
+stand_fit (Some c) n f h = (cond_some (bytes_eq c n) None MemberTwice h).0
+stand_fit None n f h =
+    let p = cond_none (has_members f) (cond (claims f n) (Some MemberTwice) None) NotAnObject h in
+    both (has_members f) (not (claims f n)) p.0 (cond_some (claims f n) None MemberTwice p.1).0
+
+stand_fit_back : (i : Option (List ℕ)) (n : List ℕ) (f : FileFormTree) → stands_in i n f ≡ true → held_fault n i f ≡ None
+stand_fit_back (Some c) n f h = cond_not (bytes_eq c n) (Some MemberTwice) None h refl
+stand_fit_back None n f h =
+    ap (λ b. cond b (cond (claims f n) (Some MemberTwice) None) (Some NotAnObject)) (left (has_members f) (not (claims f n)) h)
+    ∙ cond_not (claims f n) (Some MemberTwice) None (right (has_members f) (not (claims f n)) h) refl
+
+all_fit : (h : Held) (fs : FormFields) → held_misfit h fs ≡ None → all_stand h fs ≡ true
+all_fit h no_forms e = refl
+all_fit h (more_forms n f fs) e =
+    let p = neither (option_map (λ (fault : FormFault). at_field fault n) (held_fault h.name h.inside f)) (held_misfit h fs) e in
+    both (stands h f) (all_stand h fs) (stand_fit h.inside h.name f (map_none (λ (fault : FormFault). at_field fault n) (held_fault h.name h.inside f) p.0)) (all_fit h fs p.1)
+
+all_fit_back : (h : Held) (fs : FormFields) → all_stand h fs ≡ true → held_misfit h fs ≡ None
+all_fit_back h no_forms e = refl
+all_fit_back h (more_forms n f fs) e =
+    neither_back (option_map (λ (fault : FormFault). at_field fault n) (held_fault h.name h.inside f)) (held_misfit h fs)
+    (map_none_back (λ (fault : FormFault). at_field fault n) (held_fault h.name h.inside f) (stand_fit_back h.inside h.name f (left (stands h f) (all_stand h fs) e)))
+    (all_fit_back h fs (right (stands h f) (all_stand h fs) e))
+
+kinds_fit : (h : Held) (ws : List (List ℕ × Literal)) (fs : FormFields) → kinds_misfit h ws fs ≡ None → (are_words ws && (are_same_names (word_names ws) (form_names fs) && all_stand h fs)) ≡ true
+kinds_fit h ws fs e =
+    let same = are_same_names (word_names ws) (form_names fs) in
+    let p = neither (words_misfit ws) (first_of (cond same None (Some ([], OtherTags))) (held_misfit h fs)) e in
+    let q = neither (cond same None (Some ([], OtherTags))) (held_misfit h fs) p.1 in
+    both (are_words ws) (same && all_stand h fs) (words_fit ws p.0) (both same (all_stand h fs) (cond_none same None ([], OtherTags) q.0).0 (all_fit h fs q.1))
+
+kinds_fit_back : (h : Held) (ws : List (List ℕ × Literal)) (fs : FormFields) → (are_words ws && (are_same_names (word_names ws) (form_names fs) && all_stand h fs)) ≡ true → kinds_misfit h ws fs ≡ None
+kinds_fit_back h ws fs e =
+    let same = are_same_names (word_names ws) (form_names fs) in
+    let rest = right (are_words ws) (same && all_stand h fs) e in
+    neither_back (words_misfit ws) (first_of (cond same None (Some ([], OtherTags))) (held_misfit h fs)) (words_fit_back ws (left (are_words ws) (same && all_stand h fs) e))
+    (neither_back (cond same None (Some ([], OtherTags))) (held_misfit h fs)
+    (ap (λ b. cond b None (Some ([], OtherTags))) (left same (all_stand h fs) rest)) (all_fit_back h fs (right same (all_stand h fs) rest)))
 
 -- ---- a form and its parts
 
@@ -200,6 +245,9 @@ mutual
       both (are_distinct (form_names fs) && are_told_apart fs) (are_fit fs)
       (both (are_distinct (form_names fs)) (are_told_apart fs) (distinct fs (map_none (at_field TagTwice) (tag_twice fs) q.0)) (apart fs (map_none (at_field SameSlot) (same_slot fs) q.1)))
       (parts_fit fs p.1)
+  fits (as_kinded h ws fs) e =
+      let p = neither (kinds_misfit h ws fs) (part_misfit fs) e in
+      both (are_words ws && (are_same_names (word_names ws) (form_names fs) && all_stand h fs)) (are_fit fs) (kinds_fit h ws fs p.0) (parts_fit fs p.1)
   fits (as_items f) h = fits f (map_none (inside Inside) (first_misfit f) h)
   fits (as_map f) h = fits f (map_none (inside Inside) (first_misfit f) h)
   fits f h = refl
@@ -230,6 +278,9 @@ mutual
       (map_none_back (at_field TagTwice) (tag_twice fs) (distinct_back fs (left (are_distinct (form_names fs)) (are_told_apart fs) shape)))
       (map_none_back (at_field SameSlot) (same_slot fs) (apart_back fs (right (are_distinct (form_names fs)) (are_told_apart fs) shape))))
       (parts_fit_back fs (right (are_distinct (form_names fs) && are_told_apart fs) (are_fit fs) h))
+  fits_back (as_kinded h ws fs) e =
+      let kinds = are_words ws && (are_same_names (word_names ws) (form_names fs) && all_stand h fs) in
+      neither_back (kinds_misfit h ws fs) (part_misfit fs) (kinds_fit_back h ws fs (left kinds (are_fit fs) e)) (parts_fit_back fs (right kinds (are_fit fs) e))
   fits_back (as_items f) h = map_none_back (inside Inside) (first_misfit f) (fits_back f h)
   fits_back (as_map f) h = map_none_back (inside Inside) (first_misfit f) (fits_back f h)
   fits_back f h = refl

@@ -4,6 +4,8 @@ pub mod SortedMembers
 pub mod Telling
 pub mod MemberLiterals
 pub mod IntTexts
+pub mod HeldMembers
+pub mod HeldContents
 pub mod Contents
 pub mod WriteReads
 pub mod ReadWrites

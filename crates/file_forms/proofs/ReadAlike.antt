@@ -1,13 +1,19 @@
 -- A tree and the one with its members in byte order are read alike.
-use Rattle.std.proofs.Common.{◌≡◌, ℕ, cond, bytes_eq, List, Option, Some, None, option_map, option_and_then, refl, sym, ap, ap₂, ◌∙◌}
+use Rattle.std.proofs.Common.{◌≡◌, ℕ, true, cond, bytes_eq, List, Option, Some, None, option_map, option_and_then, refl, sym, ap, ap₂, ◌∙◌}
 use Rattle.json.specs.Json.{Json, Members, no_members, member}
 use Rattle.json.specs.Strict.{keys}
 use Rattle.doc_values.specs.Documents.{DocTree, unit, truth, pick, rec, alt, more_docs}
-use Rattle.file_forms.specs.Forms.{FileFormTree, as_literal, as_bool, as_truths, as_int, as_text, as_enum, as_words, as_number, as_object, as_tagged, as_bare, as_items, as_map, FormFields, no_forms, more_forms}
-use Rattle.file_forms.specs.Orders.{by_name, sorted, sorted_members}
+use Rattle.file_forms.specs.Forms.{FileFormTree, as_literal, as_bool, as_truths, as_int, as_text, as_enum, as_words, as_number, as_object, as_tagged, as_bare, as_kinded, as_items, as_map, FormFields, no_forms, more_forms}
+use Rattle.file_forms.specs.Orders.{by_name, sorted, sorted_members, first_named, without}
+use Rattle.file_forms.specs.declared.literal.Literal.{Literal}
+use Rattle.file_forms.specs.declared.held.Held.{Held}
+use Rattle.texts.specs.Keys.{is_rising}
 use Rattle.file_forms.specs.Slots.{takes}
-use Rattle.file_forms.specs.FileValues.{head_slot, after_head, listed_doc, keyed_doc, members_read, only_read, read, read_fields, read_tag, read_bare}
-use Rattle.file_forms.proofs.Sorting.{each_sorted, each_keys, by_name-sorted}
+use Rattle.file_forms.specs.FileValues.{word_of, content_slot, read_kind, head_slot, after_head, listed_doc, keyed_doc, members_read, only_read, read, read_fields, read_tag, read_bare}
+use Rattle.file_forms.proofs.Sorting.{each_sorted, each_keys, by_name-sorted, by_name-is_rising}
+use Rattle.file_forms.proofs.SortedMembers.{named-each}
+use Rattle.file_forms.proofs.HeldMembers.{rising_without, without-each}
+use Rattle.file_forms.proofs.HeldContents.{slot_each}
 use Rattle.file_forms.proofs.Telling.{tree_alike, literal_alike, takes_alike}
 use Rattle.file_forms.proofs.MemberLiterals.{truth_alike, word_alike}
 use Rattle.file_forms.proofs.Contents.{items_alike, members_alike, only_alike, head_each, after_each}
@@ -20,6 +26,26 @@ map_alike : (read : Json → Option DocTree) → ((j : Json) → read j ≡ read
 map_alike read alike ms =
     ap₂ (λ ks r. option_and_then (keyed_doc ks) r) (sym (each_keys (by_name ms))) (members_alike read alike (by_name ms))
     ∙ ap (map_read read) (sym (by_name-sorted ms))
+
+-- alternatives from their members in order, of which one is the kind
+abbrev kinded_read : Held → List (List ℕ × Literal) → FormFields → Members → Option DocTree
+kinded_read h ws fs ms = option_and_then (λ n. option_map (alt n) (read_kind h.inside fs n (without h.name ms))) (word_of ws (first_named h.name ms))
+
+bind_alike : {X Y : Type 0} (f g : X → Option Y) (o : Option X) → ((x : X) → f x ≡ g x) → option_and_then f o ≡ option_and_then g o
+bind_alike f g None h = refl
+bind_alike f g (Some x) h = h x
+
+slot_alike : (read : Option Json → Option DocTree) (o : Option (Option Json)) → ((s : Option Json) → read s ≡ read (option_map sorted s)) → option_and_then read o ≡ option_and_then read (option_map (option_map sorted) o)
+slot_alike read None h = refl
+slot_alike read (Some s) h = h s
+
+kinded_alike : (h : Held) (ws : List (List ℕ × Literal)) (fs : FormFields) (ms : Members)
+    → ((n : List ℕ) → read_kind h.inside fs n (without h.name ms) ≡ read_kind h.inside fs n (each_sorted (without h.name ms))) → kinded_read h ws fs ms ≡ kinded_read h ws fs (each_sorted ms)
+kinded_alike h ws fs ms kind =
+    bind_alike (λ n. option_map (alt n) (read_kind h.inside fs n (without h.name ms))) (λ n. option_map (alt n) (read_kind h.inside fs n (without h.name (each_sorted ms)))) (word_of ws (first_named h.name ms))
+    (λ n. ap (option_map (alt n)) (kind n ∙ ap (read_kind h.inside fs n) (sym (without-each h.name ms))))
+    ∙ ap (option_and_then (λ n. option_map (alt n) (read_kind h.inside fs n (without h.name (each_sorted ms)))))
+    (word_alike ws (first_named h.name ms) ∙ ap (word_of ws) (sym (named-each h.name ms)))
 
 mutual
   pub alike : (f : FileFormTree) (s : Option Json) → read f s ≡ read f (option_map sorted s)
@@ -38,6 +64,9 @@ mutual
       tree_alike (read (as_tagged fs)) (λ js. refl)
       (λ ms. only_alike (read_tag fs) (λ k j. tag_alike fs k j) (by_name ms) ∙ ap (only_read (read_tag fs)) (sym (by_name-sorted ms))) s
   alike (as_bare fs) s = bare_alike fs s
+  alike (as_kinded h ws fs) s =
+      tree_alike (read (as_kinded h ws fs)) (λ js. refl)
+      (λ ms. kinded_alike h ws fs (by_name ms) (λ n. kind_alike h.inside fs n (without h.name (by_name ms)) (rising_without h.name (by_name ms) (by_name-is_rising ms))) ∙ ap (kinded_read h ws fs) (sym (by_name-sorted ms))) s
   alike (as_items f) s =
       tree_alike (read (as_items f)) (λ js. ap (option_map listed_doc) (items_alike (λ j. read f (Some j)) (λ j. alike f (Some j)) js)) (λ ms. refl) s
   alike (as_map f) s =
@@ -54,6 +83,13 @@ mutual
   tag_alike : (fs : FormFields) (k : List ℕ) (j : Json) → read_tag fs k j ≡ read_tag fs k (sorted j)
   tag_alike no_forms k j = refl
   tag_alike (more_forms n f fs) k j = ap₂ (λ x y. cond (bytes_eq n k) x y) (alike f (Some j)) (tag_alike fs k j)
+
+  kind_alike : (i : Option (List ℕ)) (fs : FormFields) (n : List ℕ) (ms : Members) → is_rising (keys ms) ≡ true → read_kind i fs n ms ≡ read_kind i fs n (each_sorted ms)
+  kind_alike i no_forms n ms r = refl
+  kind_alike i (more_forms m f fs) n ms r =
+      ap₂ (λ x y. cond (bytes_eq m n) x y)
+      (slot_alike (read f) (content_slot i f ms) (λ s. alike f s) ∙ ap (option_and_then (read f)) (sym (slot_each i f ms r)))
+      (kind_alike i fs n ms r)
 
   bare_alike : (fs : FormFields) (s : Option Json) → read_bare fs s ≡ read_bare fs (option_map sorted s)
   bare_alike no_forms s = refl

@@ -9,16 +9,19 @@ use Rattle.texts.proofs.Conjunction.{first as left, second as right}
 use Rattle.texts.proofs.KeyOrder.{bytes_eq-refl}
 use Rattle.texts.proofs.Tests.{bytes_eq-is, or_second, nat_eq-refl}
 use Rattle.hold_shapes.specs.declared.shape.Shape.TheVariants.{Keyed as KeyedOf}
-use Rattle.doc_values.specs.Types.{are_distinct}
+use Rattle.doc_values.specs.Types.{are_distinct, are_same_names}
 use Rattle.doc_values.specs.Documents.{DocTree, unit, truth, int, text, pick, rec, alt, hold, DocTrees, more_docs, doc_list}
-use Rattle.file_forms.specs.Forms.{FileFormTree, as_literal, as_bool, as_truths, as_int, as_text, as_enum, as_words, as_number, as_object, as_tagged, as_bare, as_items, as_map, FormFields, no_forms, more_forms, form_names, word_names, word_literals}
-use Rattle.file_forms.specs.Orders.{by_name, sorted, sorted_items, sorted_members}
+use Rattle.file_forms.specs.Forms.{FileFormTree, as_literal, as_bool, as_truths, as_int, as_text, as_enum, as_words, as_number, as_object, as_tagged, as_bare, as_kinded, as_items, as_map, FormFields, no_forms, more_forms, form_names, word_names, word_literals}
+use Rattle.file_forms.specs.Orders.{by_name, sorted, sorted_items, sorted_members, first_named, without, joined}
+use Rattle.file_forms.specs.Beside.{all_stand}
 use Rattle.file_forms.specs.Slots.{is_literal, takes, are_told_apart}
-use Rattle.file_forms.specs.Fitting.{are_unlike, are_writable, is_fit, are_fit}
+use Rattle.file_forms.specs.Fitting.{are_unlike, are_writable, are_words, is_fit, are_fit}
 use Rattle.file_forms.specs.Numbers.{is_number}
-use Rattle.file_forms.specs.FileValues.{int_text, truth_of, word_of, head_slot, after_head, with_slot, listed_doc, keyed_doc, array_slot, object_slot, tagged_slot, items_read, members_read, items_written, members_written, read, read_fields, read_tag, read_bare, write, write_fields, write_tag}
+use Rattle.file_forms.specs.FileValues.{word_slot, content_slot, content_members, read_kind, write_kind, int_text, truth_of, word_of, head_slot, after_head, with_slot, listed_doc, keyed_doc, array_slot, object_slot, tagged_slot, items_read, members_read, items_written, members_written, read, read_fields, read_tag, read_bare, write, write_fields, write_tag}
 use Rattle.file_forms.proofs.Facts.{some_is, bind_some, map_some, if_some, choice, refuted, not_both}
-use Rattle.file_forms.proofs.Sorting.{each_sorted, sorted_each}
+use Rattle.file_forms.proofs.Sorting.{each_sorted, sorted_each, by_name-is_rising}
+use Rattle.file_forms.proofs.HeldMembers.{rising_without, joined_back}
+use Rattle.file_forms.proofs.HeldContents.{content_found}
 use Rattle.file_forms.proofs.Telling.{literal-is, sorted_literal}
 use Rattle.file_forms.proofs.MemberLiterals.{truth_found, word_found, other_name}
 use Rattle.file_forms.proofs.IntTexts.{int_found}
@@ -95,6 +98,22 @@ mutual
       let shape = left (are_distinct (form_names fs) && are_told_apart fs) (are_fit fs) k in
       let b = bare_found fs s v (left (are_distinct (form_names fs)) (are_told_apart fs) shape) (right (are_distinct (form_names fs) && are_told_apart fs) (are_fit fs) k) h in
       subst (λ x. write (as_bare fs) x ≡ Some (option_map sorted s)) b.is b.written
+  found (as_kinded h ws fs) (Some (object ms)) v k e =
+      let ns = by_name ms in
+      let b = bind_some (λ n. option_map (alt n) (read_kind h.inside fs n (without h.name ns))) (word_of ws (first_named h.name ns)) v e in
+      let m = map_some (alt b.0) (read_kind h.inside fs b.0 (without h.name ns)) v b.2 in
+      let kinds = left (are_words ws) (are_same_names (word_names ws) (form_names fs) && all_stand h fs)
+      (left (are_words ws && (are_same_names (word_names ws) (form_names fs) && all_stand h fs)) (are_fit fs) k) in
+      let fit = right (are_words ws && (are_same_names (word_names ws) (form_names fs) && all_stand h fs)) (are_fit fs) k in
+      let distinct = left (are_distinct (word_names ws)) (are_unlike (word_literals ws) && are_writable (word_literals ws)) kinds in
+      let rising = by_name-is_rising ms in
+      subst (λ x. write (as_kinded h ws fs) x ≡ Some (Some (object (sorted_members ms)))) m.2
+      (ap (λ o. option_map object_slot (option_and_then (λ s. option_and_then (joined h.name s) (write_kind h.inside fs b.0 m.0)) o))
+      (word_found ws (first_named h.name ns) b.0 distinct b.1)
+      ∙ ap (λ o. option_map object_slot (option_and_then (joined h.name (option_map sorted (first_named h.name ns))) o))
+      (kind_found h.inside fs b.0 (without h.name ns) m.0 (rising_without h.name ns rising) fit m.1)
+      ∙ ap (option_map object_slot) (joined_back h.name ns rising)
+      ∙ ap (λ x. Some (Some (object x))) (sorted_each ms))
   found (as_items f) (Some (array js)) v k h =
       let m = map_some listed_doc (items_read (λ j. read f (Some j)) js) v h in
       let r = items_found (write f) (λ j. read f (Some j)) (λ j d e. found f (Some j) d k e) js m.0 m.1 in
@@ -126,6 +145,14 @@ mutual
   tag_found (more_forms m f fs) n j d k h =
       choice (bytes_eq m n) (read f (Some j)) (read_tag fs n j) (Some d) (write f d) (write_tag fs n d) (Some (Some (sorted j)))
       (λ e. found f (Some j) d (left (is_fit f) (are_fit fs) k) e) (λ e. tag_found fs n j d (right (is_fit f) (are_fit fs) k) e) h
+
+  kind_found : (i : Option (List ℕ)) (fs : FormFields) (n : List ℕ) (ms : Members) (d : DocTree) → is_rising (keys ms) ≡ true → are_fit fs ≡ true → read_kind i fs n ms ≡ Some d → write_kind i fs n d ≡ Some (each_sorted ms)
+  kind_found i no_forms n ms d r k h = cc
+  kind_found i (more_forms m f fs) n ms d r k h =
+      choice (bytes_eq m n) (option_and_then (read f) (content_slot i f ms)) (read_kind i fs n ms) (Some d) (option_and_then (content_members i f) (write f d)) (write_kind i fs n d) (Some (each_sorted ms))
+      (λ e. let b = bind_some (read f) (content_slot i f ms) d e in
+      ap (option_and_then (content_members i f)) (found f b.0 d (left (is_fit f) (are_fit fs) k) b.2) ∙ content_found i f ms b.0 r b.1)
+      (λ e. kind_found i fs n ms d r (right (is_fit f) (are_fit fs) k) e) h
 
   bare_found : (fs : FormFields) (s : Option Json) (v : DocTree) → are_distinct (form_names fs) ≡ true → are_fit fs ≡ true → read_bare fs s ≡ Some v → BareFound fs s v
   bare_found no_forms s v a k h = cc

@@ -35,7 +35,7 @@ named-put_by Greater n k l j i ms e h =
     ap (λ x. cond (bytes_eq n l) (Some i) x) h
     ∙ either_order (bytes_eq n l) (bytes_eq n k) (Some i) (Some j) (first_named n ms) (λ is. ap (λ x. bytes_eq x k) (bytes_eq-is n l is) ∙ before-differs l k before)
 
-named-put : (n k : List ℕ) (j : Json) (ms : Members) → first_named n (put k j ms) ≡ cond (bytes_eq n k) (Some j) (first_named n ms)
+pub named-put : (n k : List ℕ) (j : Json) (ms : Members) → first_named n (put k j ms) ≡ cond (bytes_eq n k) (Some j) (first_named n ms)
 named-put n k j no_members = refl
 named-put n k j (member l i ms) = named-put_by (slice_cmp nat_cmp k l) n k l j i ms refl (named-put n k j ms)
 
@@ -47,7 +47,7 @@ sorted_choice : (b : Bool) (j : Json) (o : Option Json) → cond b (Some (sorted
 sorted_choice true j o = refl
 sorted_choice false j o = refl
 
-named-each : (n : List ℕ) (ms : Members) → first_named n (each_sorted ms) ≡ option_map sorted (first_named n ms)
+pub named-each : (n : List ℕ) (ms : Members) → first_named n (each_sorted ms) ≡ option_map sorted (first_named n ms)
 named-each n no_members = refl
 named-each n (member k j ms) = ap (cond (bytes_eq n k) (Some (sorted j))) (named-each n ms) ∙ sorted_choice (bytes_eq n k) j (first_named n ms)
 

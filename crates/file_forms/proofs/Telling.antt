@@ -1,5 +1,5 @@
 -- Which slots a form takes: what it writes, and of forms that are told apart one alone.
-use Rattle.std.proofs.Common.{◌≡◌, ℕ, Bool, true, false, not, ◌||◌, bytes_eq, List, [], ◌∷◌, Option, Some, None, option_map, refl, sym, subst, ap, ◌∙◌}
+use Rattle.std.proofs.Common.{◌≡◌, ℕ, Bool, true, false, not, ◌||◌, bytes_eq, List, [], ◌∷◌, Option, Some, None, option_map, option_and_then, refl, sym, subst, ap, ◌∙◌}
 use Rattle.std.specs.Prelude.{nat_eq}
 use Rattle.std.specs.Option.{option_flatten}
 use Rattle.std.proofs.lemmas.Bool.{eqb-true, eq-eqb}
@@ -14,11 +14,11 @@ use Rattle.std.specs.Fmt.{signed_decimal}
 use Rattle.std.proofs.Common.{length}
 use Rattle.file_forms.specs.declared.literal.Literal.{Literal}
 use Rattle.file_forms.specs.declared.literal.Literal.TheVariants.{Gone, Null, Bool as Truth, Number, Text}
-use Rattle.file_forms.specs.Forms.{FileFormTree, as_literal, as_bool, as_truths, as_int, as_text, as_enum, as_words, as_number, as_object, as_tagged, as_bare, as_items, as_map, FormFields, no_forms, more_forms, word_literals}
-use Rattle.file_forms.specs.Orders.{sorted, sorted_items, sorted_members}
+use Rattle.file_forms.specs.Forms.{FileFormTree, as_literal, as_bool, as_truths, as_int, as_text, as_enum, as_words, as_number, as_object, as_tagged, as_bare, as_kinded, as_items, as_map, FormFields, no_forms, more_forms, word_literals}
+use Rattle.file_forms.specs.Orders.{sorted, sorted_items, sorted_members, joined}
 use Rattle.file_forms.specs.Slots.{literal_slot, is_literal, is_any, sort_of, sort_number, same_sort, Sign, exactly, any_of, has_sign, sign, takes, any_takes, clash, sign_meets, sign_meets_literals, sign_meets_any, meets_any, some_meets_any, some_literal_meets}
 use Rattle.file_forms.specs.Numbers.{is_number}
-use Rattle.file_forms.specs.FileValues.{truth_literal, word_slot, array_slot, object_slot, tagged_slot, items_written, members_written, write, write_fields, write_tag}
+use Rattle.file_forms.specs.FileValues.{truth_literal, word_slot, array_slot, object_slot, tagged_slot, items_written, members_written, write, write_fields, write_tag, write_kind}
 use Rattle.file_forms.proofs.Facts.{some_is, map_some, if_some, if_then, choice_or, either, refuted, not_both}
 
 -- ---- literals
@@ -138,6 +138,9 @@ mutual
   write-takes (as_object fs) (rec ds) s h = subst (λ x. takes (as_object fs) x ≡ true) (map_some object_slot (write_fields fs ds) s h).2 refl
   write-takes (as_tagged fs) (alt n d) s h = subst (λ x. takes (as_tagged fs) x ≡ true) (map_some (tagged_slot n) (option_flatten (write_tag fs n d)) s h).2 refl
   write-takes (as_bare fs) (alt n d) s h = tag-takes fs n d s h
+  write-takes (as_kinded h ws fs) (alt n d) s e =
+      subst (λ x. takes (as_kinded h ws fs) x ≡ true)
+      (map_some object_slot (option_and_then (λ k. option_and_then (joined h.name k) (write_kind h.inside fs n d)) (word_slot ws n)) s e).2 refl
   write-takes (as_items f) (hold (ListOf c) ds) s h =
       let p = if_then (nat_eq c.count (length (doc_list ds))) (option_map array_slot (items_written (write f) ds)) s h in
       subst (λ x. takes (as_items f) x ≡ true) (map_some array_slot (items_written (write f) ds) s p.1).2 refl

@@ -4,35 +4,35 @@ use Rattle.std.specs.Prelude.{nat_eq}
 use Rattle.std.specs.Option.{option_flatten}
 use Rattle.std.specs.Fmt.{signed_decimal}
 use Rattle.std.proofs.lemmas.Bool.{eqb-true}
-use Rattle.json.specs.Json.{Json, number, string, Members}
+use Rattle.json.specs.Json.{Json, number, string, object, Members, member, no_members}
 use Rattle.json.specs.Strict.{keys}
 use Rattle.texts.specs.Keys.{is_before, is_rising, has_name}
 use Rattle.texts.proofs.Conjunction.{both, first as left, second as right}
-use Rattle.texts.proofs.KeyOrder.{before-trans, rising-first, rising-rest}
+use Rattle.texts.proofs.KeyOrder.{rising-first, rising-rest}
 use Rattle.texts.proofs.Tests.{bytes_eq-is}
 use Rattle.hold_shapes.specs.declared.shape.Shape.TheVariants.{List as ListOf, Keyed as KeyedOf}
-use Rattle.doc_values.specs.Types.{are_distinct}
+use Rattle.doc_values.specs.Types.{are_distinct, are_same_names}
 use Rattle.doc_values.specs.Documents.{DocTree, unit, truth, int, text, pick, rec, alt, hold, DocTrees, no_docs, more_docs, doc_list}
 use Rattle.doc_values.specs.Integers.{fits_i64}
-use Rattle.file_forms.specs.Forms.{FileFormTree, as_literal, as_bool, as_truths, as_int, as_text, as_enum, as_words, as_number, as_object, as_tagged, as_bare, as_items, as_map, FormFields, no_forms, more_forms, form_names, word_names, word_literals}
+use Rattle.file_forms.specs.Forms.{FileFormTree, as_literal, as_bool, as_truths, as_int, as_text, as_enum, as_words, as_number, as_object, as_tagged, as_bare, as_kinded, as_items, as_map, FormFields, no_forms, more_forms, form_names, word_names, word_literals}
+use Rattle.file_forms.specs.declared.literal.Literal.{Literal}
+use Rattle.file_forms.specs.declared.held.Held.{Held}
+use Rattle.file_forms.specs.Orders.{first_named, without, joined}
+use Rattle.file_forms.specs.Beside.{is_object_form, all_stand}
 use Rattle.file_forms.specs.Slots.{takes, meets_any, are_told_apart}
-use Rattle.file_forms.specs.Fitting.{are_unlike, are_writable, is_fit, are_fit}
+use Rattle.file_forms.specs.Fitting.{are_unlike, are_writable, are_words, is_fit, are_fit}
 use Rattle.file_forms.specs.Numbers.{is_number}
-use Rattle.file_forms.specs.FileValues.{head_slot, after_head, with_slot, listed_doc, keyed_doc, array_slot, object_slot, tagged_slot, members_read, items_written, members_written, read, read_fields, read_tag, read_bare, write, write_fields, write_tag}
-use Rattle.file_forms.proofs.Facts.{some_is, bind_some, map_some, flatten_some, if_some, if_then, choice}
-use Rattle.file_forms.proofs.Sorting.{by_name-rising}
+use Rattle.file_forms.specs.FileValues.{word_of, word_slot, content_slot, content_members, read_kind, write_kind, head_slot, after_head, with_slot, listed_doc, keyed_doc, array_slot, object_slot, tagged_slot, members_read, items_written, members_written, read, read_fields, read_tag, read_bare, write, write_fields, write_tag}
+use Rattle.file_forms.proofs.Facts.{some_is, bind_some, map_some, flatten_some, if_some, if_then, choice, chosen}
+use Rattle.file_forms.proofs.Sorting.{by_name-rising, skip}
+use Rattle.file_forms.proofs.HeldMembers.{joined_named, joined_without, joined_rising}
+use Rattle.file_forms.proofs.HeldContents.{content_again, content_rising}
 use Rattle.file_forms.proofs.Telling.{literal-refl, taken_once, write-takes, tag-takes}
 use Rattle.file_forms.proofs.MemberLiterals.{truth_again, word_again}
 use Rattle.file_forms.proofs.IntTexts.{int_again}
 use Rattle.file_forms.proofs.Contents.{items_again, members_again, keys_written, head_with, after_with}
 
 -- ---- the members of a record are in the order of its fields
-
-skip : (n m : List ℕ) (ns : List (List ℕ)) → is_rising (n ∷ m ∷ ns) ≡ true → is_rising (n ∷ ns) ≡ true
-skip n m [] h = refl
-skip n m (k ∷ ns) h =
-    let rest = rising-rest n (m ∷ k ∷ ns) h in
-    both (is_before n k) (is_rising (k ∷ ns)) (before-trans n m k (rising-first n (m ∷ k ∷ ns) h) (rising-first m (k ∷ ns) rest)) (rising-rest m (k ∷ ns) rest)
 
 rising_with : (n m : List ℕ) (s : Option Json) (ms : Members) → is_before n m ≡ true → is_rising (m ∷ keys ms) ≡ true → is_rising (n ∷ keys ms) ≡ true → is_rising (n ∷ keys (with_slot m s ms)) ≡ true
 rising_with n m None ms b r t = t
@@ -61,6 +61,57 @@ keys_rise (more_forms m f fs) (more_docs d ds) ms r h =
     let b = bind_some (λ s. option_map (with_slot m s) (write_fields fs ds)) (write f d) ms h in
     let p = map_some (with_slot m b.0) (write_fields fs ds) ms b.2 in
     subst (λ x. is_rising (keys x) ≡ true) p.2 (keys_with m b.0 p.0 (fields_after fs m ds p.0 r p.1))
+
+-- ---- the members of any object are in order
+
+same_members : (ms ns : Members) → object_slot ms ≡ Some (object ns) → ms ≡ ns
+same_members ms ns h = cc
+
+-- what is written of a content, and with the kind
+abbrev pub kinded_members : Held → List (List ℕ × Literal) → FormFields → List ℕ → DocTree → Option Members
+kinded_members h ws fs n d = option_and_then (λ s. option_and_then (joined h.name s) (write_kind h.inside fs n d)) (word_slot ws n)
+
+-- the slot of the kind, the members of the content, and how they are joined
+pub record KindWritten (h : Held) (ws : List (List ℕ × Literal)) (fs : FormFields) (n : List ℕ) (d : DocTree) (ms : Members) : Type 0 where
+  pub kind : Option Json
+  pub content : Members
+  pub word_is : word_slot ws n ≡ Some kind
+  pub content_is : write_kind h.inside fs n d ≡ Some content
+  pub all : joined h.name kind content ≡ Some ms
+
+pub kind_written : (h : Held) (ws : List (List ℕ × Literal)) (fs : FormFields) (n : List ℕ) (d : DocTree) (ms : Members) → kinded_members h ws fs n d ≡ Some ms → KindWritten h ws fs n d ms
+kind_written h ws fs n d ms e =
+    let b = bind_some (λ s. option_and_then (joined h.name s) (write_kind h.inside fs n d)) (word_slot ws n) ms e in
+    let c = bind_some (joined h.name b.0) (write_kind h.inside fs n d) ms b.2 in
+    record { kind = b.0; content = c.0; word_is = b.1; content_is = c.1; all = c.2 }
+
+mutual
+  rises : (f : FileFormTree) (d : DocTree) (ms : Members) → is_fit f ≡ true → is_object_form f ≡ true → write f d ≡ Some (Some (object ms)) → is_rising (keys ms) ≡ true
+  rises (as_object fs) (rec ds) ms k o h =
+      let m = map_some object_slot (write_fields fs ds) (Some (object ms)) h in
+      subst (λ x. is_rising (keys x) ≡ true) (same_members m.0 ms m.2) (keys_rise fs ds m.0 (left (is_rising (form_names fs)) (are_fit fs) k) m.1)
+  rises (as_tagged fs) (alt n d) ms k o h =
+      let m = map_some (tagged_slot n) (option_flatten (write_tag fs n d)) (Some (object ms)) h in
+      subst (λ x. is_rising (keys x) ≡ true) (same_members (member n m.0 no_members) ms m.2) refl
+  rises (as_kinded h ws fs) (alt n d) ms k o e =
+      let m = map_some object_slot (kinded_members h ws fs n d) (Some (object ms)) e in
+      let w = kind_written h ws fs n d m.0 m.1 in
+      let content = kind_rises h.inside fs n d w.content (right (are_words ws && (are_same_names (word_names ws) (form_names fs) && all_stand h fs)) (are_fit fs) k) w.content_is in
+      subst (λ x. is_rising (keys x) ≡ true) (same_members m.0 ms m.2) (joined_rising h.name w.kind w.content m.0 content w.all)
+  rises (as_map f) (hold (KeyedOf ks) ds) ms k o h =
+      let p = if_then (is_rising ks) (option_map object_slot (members_written (write f) ks ds)) (Some (object ms)) h in
+      let m = map_some object_slot (members_written (write f) ks ds) (Some (object ms)) p.1 in
+      let names = keys_written (write f) (λ j. read f (Some j)) ks ds m.0 m.1 in
+      subst (λ x. is_rising (keys x) ≡ true) (same_members m.0 ms m.2) (ap is_rising names ∙ p.0)
+  rises f d ms k o h = cc
+
+  kind_rises : (i : Option (List ℕ)) (fs : FormFields) (n : List ℕ) (d : DocTree) (ms : Members) → are_fit fs ≡ true → write_kind i fs n d ≡ Some ms → is_rising (keys ms) ≡ true
+  kind_rises i no_forms n d ms k h = cc
+  kind_rises i (more_forms m f fs) n d ms k h =
+      chosen (bytes_eq m n) (option_and_then (content_members i f) (write f d)) (write_kind i fs n d) ms (is_rising (keys ms) ≡ true)
+      (λ e. let b = bind_some (content_members i f) (write f d) ms e in
+      content_rising i f b.0 ms (λ ns o is. rises f d ns (left (is_fit f) (are_fit fs) k) o (b.1 ∙ ap Some is)) b.2)
+      (λ e. kind_rises i fs n d ms (right (is_fit f) (are_fit fs) k) e) h
 
 -- ---- fields and tags
 
@@ -119,6 +170,20 @@ mutual
   again (as_bare fs) (alt n d) s k h =
       let shape = left (are_distinct (form_names fs) && are_told_apart fs) (are_fit fs) k in
       bare_again fs n d s (right (are_distinct (form_names fs)) (are_told_apart fs) shape) (right (are_distinct (form_names fs) && are_told_apart fs) (are_fit fs) k) h
+  again (as_kinded h ws fs) (alt n d) s k e =
+      let m = map_some object_slot (kinded_members h ws fs n d) s e in
+      let w = kind_written h ws fs n d m.0 m.1 in
+      let kinds = left (are_words ws) (are_same_names (word_names ws) (form_names fs) && all_stand h fs)
+      (left (are_words ws && (are_same_names (word_names ws) (form_names fs) && all_stand h fs)) (are_fit fs) k) in
+      let unlike = left (are_unlike (word_literals ws)) (are_writable (word_literals ws)) (right (are_distinct (word_names ws)) (are_unlike (word_literals ws) && are_writable (word_literals ws)) kinds) in
+      let fit = right (are_words ws && (are_same_names (word_names ws) (form_names fs) && all_stand h fs)) (are_fit fs) k in
+      let rising = joined_rising h.name w.kind w.content m.0 (kind_rises h.inside fs n d w.content fit w.content_is) w.all in
+      subst (λ x. read (as_kinded h ws fs) x ≡ Some (alt n d)) m.2
+      (ap (λ ms. option_and_then (λ x. option_map (alt x) (read_kind h.inside fs x (without h.name ms))) (word_of ws (first_named h.name ms))) (by_name-rising m.0 rising)
+      ∙ ap (λ o. option_and_then (λ x. option_map (alt x) (read_kind h.inside fs x (without h.name m.0))) (word_of ws o)) (joined_named h.name w.kind w.content m.0 w.all)
+      ∙ ap (option_and_then (λ x. option_map (alt x) (read_kind h.inside fs x (without h.name m.0)))) (word_again ws n w.kind unlike w.word_is)
+      ∙ ap (λ ms. option_map (alt n) (read_kind h.inside fs n ms)) (joined_without h.name w.kind w.content m.0 w.all)
+      ∙ ap (option_map (alt n)) (kind_again h.inside fs n d w.content fit w.content_is))
   again (as_items f) (hold (ListOf c) ds) s k h =
       let n = length (doc_list ds) in
       let p = if_then (nat_eq c.count n) (option_map array_slot (items_written (write f) ds)) s h in
@@ -157,6 +222,14 @@ mutual
   tag_again (more_forms m f fs) n d j k h =
       choice (bytes_eq m n) (write f d) (write_tag fs n d) (Some (Some j)) (read f (Some j)) (read_tag fs n j) (Some d)
       (λ e. again f d (Some j) (left (is_fit f) (are_fit fs) k) e) (λ e. tag_again fs n d j (right (is_fit f) (are_fit fs) k) e) h
+
+  kind_again : (i : Option (List ℕ)) (fs : FormFields) (n : List ℕ) (d : DocTree) (ms : Members) → are_fit fs ≡ true → write_kind i fs n d ≡ Some ms → read_kind i fs n ms ≡ Some d
+  kind_again i no_forms n d ms k h = cc
+  kind_again i (more_forms m f fs) n d ms k h =
+      choice (bytes_eq m n) (option_and_then (content_members i f) (write f d)) (write_kind i fs n d) (Some ms) (option_and_then (read f) (content_slot i f ms)) (read_kind i fs n ms) (Some d)
+      (λ e. let b = bind_some (content_members i f) (write f d) ms e in
+      ap (option_and_then (read f)) (content_again i f d b.0 ms b.1 b.2) ∙ again f d b.0 (left (is_fit f) (are_fit fs) k) b.1)
+      (λ e. kind_again i fs n d ms (right (is_fit f) (are_fit fs) k) e) h
 
   bare_again : (fs : FormFields) (n : List ℕ) (d : DocTree) (s : Option Json) → are_told_apart fs ≡ true → are_fit fs ≡ true → write_tag fs n d ≡ Some s → read_bare fs s ≡ Some (alt n d)
   bare_again no_forms n d s a k h = cc

@@ -1,5 +1,5 @@
 -- What is written by a fit form has the letters of numbers where it has numbers.
-use Rattle.std.proofs.Common.{◌≡◌, ℕ, ℤ, pos, negsuc, ◌<◌, ◌^◌, Bool, true, false, ◌&&◌, cond, bytes_eq, List, [], ◌∷◌, length, Option, Some, None, option_map, refl, subst, arith}
+use Rattle.std.proofs.Common.{◌≡◌, ℕ, ℤ, pos, negsuc, ◌<◌, ◌^◌, Bool, true, false, ◌&&◌, cond, bytes_eq, List, [], ◌∷◌, length, Option, Some, None, option_map, option_and_then, refl, subst, arith}
 use Rattle.std.specs.Prelude.{nat_eq}
 use Rattle.std.specs.Option.{option_flatten}
 use Rattle.std.specs.Fmt.{signed_decimal}
@@ -7,23 +7,30 @@ use Rattle.std.specs.Int.Signed.{mag}
 use Rattle.std.proofs.lemmas.Bool.Decides.{nat_tests}
 use Rattle.json.specs.Word.{after_number}
 use Rattle.json.specs.Print.{IsNumber}
-use Rattle.json.specs.Json.{Json, number, string, Items, item, Members, member}
+use Rattle.json.specs.Json.{Json, number, string, object, Items, item, Members, member, no_members}
 use Rattle.json.specs.Tree.{HasNumbers, ItemsHaveNumbers, MembersHaveNumbers}
 use Rattle.json.proofs.Printed.Decimals.{IsNumber-signed_decimal}
 use Rattle.texts.specs.Keys.{is_rising, has_name}
 use Rattle.texts.proofs.Conjunction.{first as left, second as right}
 use Rattle.hold_shapes.specs.declared.shape.Shape.TheVariants.{List as ListOf, Keyed as KeyedOf}
-use Rattle.doc_values.specs.Types.{are_distinct}
+use Rattle.doc_values.specs.Types.{are_distinct, are_same_names}
 use Rattle.doc_values.specs.Documents.{DocTree, unit, truth, int, text, pick, rec, alt, hold, DocTrees, no_docs, more_docs, doc_list}
 use Rattle.doc_values.specs.Integers.{fits_i64}
 use Rattle.file_forms.specs.declared.literal.Literal.{Literal}
 use Rattle.file_forms.specs.declared.literal.Literal.TheVariants.{Gone, Null, Bool as Truth, Number, Text}
-use Rattle.file_forms.specs.Forms.{FileFormTree, as_literal, as_bool, as_truths, as_int, as_text, as_enum, as_words, as_number, as_object, as_tagged, as_bare, as_items, as_map, FormFields, no_forms, more_forms, form_names, word_names, word_literals}
+use Rattle.file_forms.specs.Forms.{FileFormTree, as_literal, as_bool, as_truths, as_int, as_text, as_enum, as_words, as_number, as_object, as_tagged, as_bare, as_kinded, as_items, as_map, FormFields, no_forms, more_forms, form_names, word_names, word_literals}
 use Rattle.file_forms.specs.Numbers.{nothing_left, is_number}
 use Rattle.file_forms.specs.Slots.{literal_slot, are_told_apart}
-use Rattle.file_forms.specs.Fitting.{is_writable, are_writable, are_unlike, is_fit, are_fit}
-use Rattle.file_forms.specs.FileValues.{truth_literal, word_slot, with_slot, array_slot, object_slot, tagged_slot, items_written, members_written, write, write_fields, write_tag}
-use Rattle.file_forms.proofs.Facts.{some_is, bind_some, map_some, flatten_some, if_some, if_then}
+use Rattle.file_forms.specs.Fitting.{is_writable, are_writable, are_unlike, are_words, is_fit, are_fit}
+use Rattle.file_forms.specs.FileValues.{truth_literal, word_slot, with_slot, array_slot, object_slot, tagged_slot, items_written, members_written, write, write_fields, write_tag, write_kind, members_beside, content_members, object_members}
+use Rattle.file_forms.specs.Orders.{joined}
+use Rattle.file_forms.specs.Beside.{is_object_form, all_stand}
+use Rattle.file_forms.proofs.HeldMembers.{joined_is, put_numbers}
+use Rattle.file_forms.proofs.HeldContents.{object_is}
+use Rattle.file_forms.proofs.WriteReads.{kinded_members, kind_written}
+use Rattle.file_forms.specs.Orders.{put}
+use Rattle.json.specs.Strict.{keys}
+use Rattle.file_forms.proofs.Facts.{some_is, bind_some, map_some, flatten_some, if_some, if_then, chosen}
 
 -- a slot that has a tree has one in which each number has the letters of one
 abbrev pub SlotHasNumbers : Option Json → Type 0
@@ -53,14 +60,23 @@ truth_numbers : (f t : Literal) (b : Bool) → are_writable (f ∷ t ∷ []) ≡
 truth_numbers f t false k = literal_numbers f (left (is_writable f) (are_writable (t ∷ [])) k)
 truth_numbers f t true k = literal_numbers t (left (is_writable t) true (right (is_writable f) (are_writable (t ∷ [])) k))
 
-joined : (n : List ℕ) (s : Option Json) (ms : Members) → SlotHasNumbers s → MembersHaveNumbers ms → MembersHaveNumbers (with_slot n s ms)
-joined n None ms h k = k
-joined n (Some j) ms h k = (h, k)
+beside : (n : List ℕ) (s : Option Json) (ms : Members) → SlotHasNumbers s → MembersHaveNumbers ms → MembersHaveNumbers (with_slot n s ms)
+beside n None ms h k = k
+beside n (Some j) ms h k = (h, k)
 
--- the case of a choice
-chosen : {X : Type 0} (b : Bool) (p q : Option X) (x : X) (P : Type 0) → (p ≡ Some x → P) → (q ≡ Some x → P) → cond b p q ≡ Some x → P
-chosen true p q x P f g h = f h
-chosen false p q x P f g h = g h
+beside_numbers : (f : FileFormTree) (s : Option Json) (ms : Members) → SlotHasNumbers s → members_beside f s ≡ Some ms → MembersHaveNumbers ms
+beside_numbers (as_literal l) s ms n h = subst MembersHaveNumbers (some_is no_members ms h) tt
+beside_numbers f s ms n h =
+    let p = if_then (is_object_form f) (object_members s) ms h in
+    subst SlotHasNumbers (object_is s ms p.1) n
+
+content_numbers : (i : Option (List ℕ)) (f : FileFormTree) (s : Option Json) (ms : Members) → SlotHasNumbers s → content_members i f s ≡ Some ms → MembersHaveNumbers ms
+content_numbers (Some c) f s ms n h = subst MembersHaveNumbers (some_is _ _ h) (beside c s no_members n tt)
+content_numbers None f s ms n h = beside_numbers f s ms n h
+
+added_numbers : (n : List ℕ) (s : Option Json) (ms all : Members) → SlotHasNumbers s → MembersHaveNumbers ms → joined n s ms ≡ Some all → MembersHaveNumbers all
+added_numbers n None ms all a b h = subst MembersHaveNumbers (joined_is (has_name n (keys ms)) all ms h).1 b
+added_numbers n (Some j) ms all a b h = subst MembersHaveNumbers (joined_is (has_name n (keys ms)) all (put n j ms) h).1 (put_numbers n j ms a b)
 
 word_numbers : (ws : List (List ℕ × Literal)) (n : List ℕ) (s : Option Json) → are_writable (word_literals ws) ≡ true → word_slot ws n ≡ Some s → SlotHasNumbers s
 word_numbers [] n s k h = cc
@@ -111,6 +127,15 @@ mutual
       let content = tag_numbers fs n d (Some m.0) (right (are_distinct (form_names fs)) (are_fit fs) k) (flatten_some (write_tag fs n d) m.0 m.1) in
       subst SlotHasNumbers m.2 (content, tt)
   numbers (as_bare fs) (alt n d) s k h = tag_numbers fs n d s (right (are_distinct (form_names fs) && are_told_apart fs) (are_fit fs) k) h
+  numbers (as_kinded h ws fs) (alt n d) s k e =
+      let m = map_some object_slot (kinded_members h ws fs n d) s e in
+      let w = kind_written h ws fs n d m.0 m.1 in
+      let kinds = left (are_words ws) (are_same_names (word_names ws) (form_names fs) && all_stand h fs)
+      (left (are_words ws && (are_same_names (word_names ws) (form_names fs) && all_stand h fs)) (are_fit fs) k) in
+      let letters = right (are_unlike (word_literals ws)) (are_writable (word_literals ws)) (right (are_distinct (word_names ws)) (are_unlike (word_literals ws) && are_writable (word_literals ws)) kinds) in
+      let fit = right (are_words ws && (are_same_names (word_names ws) (form_names fs) && all_stand h fs)) (are_fit fs) k in
+      subst SlotHasNumbers m.2
+      (added_numbers h.name w.kind w.content m.0 (word_numbers ws n w.kind letters w.word_is) (kind_numbers h.inside fs n d w.content fit w.content_is) w.all)
   numbers (as_items f) (hold (ListOf c) ds) s k h =
       let p = if_then (nat_eq c.count (length (doc_list ds))) (option_map array_slot (items_written (write f) ds)) s h in
       let m = map_some array_slot (items_written (write f) ds) s p.1 in
@@ -129,10 +154,18 @@ mutual
       let b = bind_some (λ s. option_map (with_slot n s) (write_fields fs ds)) (write f d) ms h in
       let m = map_some (with_slot n b.0) (write_fields fs ds) ms b.2 in
       subst MembersHaveNumbers m.2
-      (joined n b.0 m.0 (numbers f d b.0 (left (is_fit f) (are_fit fs) k) b.1) (fields_numbers fs ds m.0 (right (is_fit f) (are_fit fs) k) m.1))
+      (beside n b.0 m.0 (numbers f d b.0 (left (is_fit f) (are_fit fs) k) b.1) (fields_numbers fs ds m.0 (right (is_fit f) (are_fit fs) k) m.1))
 
   tag_numbers : (fs : FormFields) (n : List ℕ) (d : DocTree) (s : Option Json) → are_fit fs ≡ true → write_tag fs n d ≡ Some s → SlotHasNumbers s
   tag_numbers no_forms n d s k h = cc
   tag_numbers (more_forms m f fs) n d s k h =
       chosen (bytes_eq m n) (write f d) (write_tag fs n d) s (SlotHasNumbers s)
       (λ e. numbers f d s (left (is_fit f) (are_fit fs) k) e) (λ e. tag_numbers fs n d s (right (is_fit f) (are_fit fs) k) e) h
+
+  kind_numbers : (i : Option (List ℕ)) (fs : FormFields) (n : List ℕ) (d : DocTree) (ms : Members) → are_fit fs ≡ true → write_kind i fs n d ≡ Some ms → MembersHaveNumbers ms
+  kind_numbers i no_forms n d ms k h = cc
+  kind_numbers i (more_forms m f fs) n d ms k h =
+      chosen (bytes_eq m n) (option_and_then (content_members i f) (write f d)) (write_kind i fs n d) ms (MembersHaveNumbers ms)
+      (λ e. let b = bind_some (content_members i f) (write f d) ms e in
+      content_numbers i f b.0 ms (numbers f d b.0 (left (is_fit f) (are_fit fs) k) b.1) b.2)
+      (λ e. kind_numbers i fs n d ms (right (is_fit f) (are_fit fs) k) e) h

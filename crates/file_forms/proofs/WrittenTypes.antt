@@ -1,5 +1,5 @@
 -- What is written has the type of its form.
-use Rattle.std.proofs.Common.{◌≡◌, ℕ, Bool, true, false, ◌&&◌, cond, bytes_eq, List, length, Option, Some, None, option_map, refl}
+use Rattle.std.proofs.Common.{◌≡◌, ℕ, Bool, true, false, ◌&&◌, cond, bytes_eq, List, length, Option, Some, None, option_map, option_and_then, refl}
 use Rattle.std.specs.Prelude.{nat_eq}
 use Rattle.std.specs.Option.{option_flatten}
 use Rattle.std.proofs.lemmas.Bool.{eq-eqb}
@@ -10,14 +10,15 @@ use Rattle.hold_shapes.specs.declared.shape.Shape.TheVariants.{List as ListOf, K
 use Rattle.doc_values.specs.Types.{TyTree, ty_alt}
 use Rattle.doc_values.specs.Documents.{DocTree, unit, truth, int, text, pick, rec, alt, hold, DocTrees, no_docs, more_docs, doc_list}
 use Rattle.doc_values.specs.Typing.{has, has_fields, has_each, lookup_field, later_field}
-use Rattle.file_forms.specs.Forms.{FileFormTree, as_literal, as_bool, as_truths, as_int, as_text, as_enum, as_words, as_number, as_object, as_tagged, as_bare, as_items, as_map, FormFields, no_forms, more_forms, type_of, types_of}
-use Rattle.file_forms.specs.FileValues.{with_slot, array_slot, object_slot, tagged_slot, items_written, members_written, read, write, write_fields, write_tag}
+use Rattle.file_forms.specs.Forms.{FileFormTree, as_literal, as_bool, as_truths, as_int, as_text, as_enum, as_words, as_number, as_object, as_tagged, as_bare, as_kinded, as_items, as_map, FormFields, no_forms, more_forms, type_of, types_of}
+use Rattle.file_forms.specs.Orders.{joined}
+use Rattle.file_forms.specs.FileValues.{with_slot, array_slot, object_slot, tagged_slot, items_written, members_written, read, write, write_fields, write_tag, write_kind, content_members, word_slot}
 use Rattle.file_forms.proofs.Facts.{bind_some, map_some, flatten_some, if_some, if_then}
 use Rattle.file_forms.proofs.MemberLiterals.{slot_named}
 use Rattle.file_forms.proofs.Contents.{items_typed, members_typed, many_written}
 
 -- the content of a tag that is found has its type, or a later one has
-tag_has : (b : Bool) (t : TyTree) (o : Option (ℕ × TyTree)) (d : DocTree) (w v : Option (Option Json)) (s : Option Json) → (w ≡ Some s → has t d ≡ true)
+tag_has : {X : Type 0} (b : Bool) (t : TyTree) (o : Option (ℕ × TyTree)) (d : DocTree) (w v : Option X) (s : X) → (w ≡ Some s → has t d ≡ true)
     → (v ≡ Some s → (elim (option_map (λ (f : ℕ × TyTree). f.1) o) [ None ↦ false | Some t ↦ has t d ]) ≡ true) → cond b w v ≡ Some s
     → (elim (option_map (λ (f : ℕ × TyTree). f.1) (cond b (Some (0, t)) (option_map (later_field 1) o))) [ None ↦ false | Some t ↦ has t d ]) ≡ true
 tag_has true t o d w v s one more h = one h
@@ -41,6 +42,11 @@ mutual
       let m = map_some (tagged_slot n) (option_flatten (write_tag fs n d)) s h in
       tag_typed fs n d (Some m.0) (flatten_some (write_tag fs n d) m.0 m.1)
   typed (as_bare fs) (alt n d) s h = tag_typed fs n d s h
+  typed (as_kinded h ws fs) (alt n d) s e =
+      let m = map_some object_slot (option_and_then (λ x. option_and_then (joined h.name x) (write_kind h.inside fs n d)) (word_slot ws n)) s e in
+      let b = bind_some (λ x. option_and_then (joined h.name x) (write_kind h.inside fs n d)) (word_slot ws n) m.0 m.1 in
+      let c = bind_some (joined h.name b.0) (write_kind h.inside fs n d) m.0 b.2 in
+      kind_typed h.inside fs n d c.0 c.1
   typed (as_items f) (hold (ListOf c) ds) s h =
       let n = length (doc_list ds) in
       let p = if_then (nat_eq c.count n) (option_map array_slot (items_written (write f) ds)) s h in
@@ -69,3 +75,9 @@ mutual
   tag_typed no_forms n d s h = cc
   tag_typed (more_forms m f fs) n d s h =
       tag_has (bytes_eq m n) (type_of f) (lookup_field (types_of fs) n) d (write f d) (write_tag fs n d) s (λ e. typed f d s e) (λ e. tag_typed fs n d s e) h
+
+  pub kind_typed : (i : Option (List ℕ)) (fs : FormFields) (n : List ℕ) (d : DocTree) (ms : Members) → write_kind i fs n d ≡ Some ms → has (ty_alt (types_of fs)) (alt n d) ≡ true
+  kind_typed i no_forms n d ms h = cc
+  kind_typed i (more_forms m f fs) n d ms h =
+      tag_has (bytes_eq m n) (type_of f) (lookup_field (types_of fs) n) d (option_and_then (content_members i f) (write f d)) (write_kind i fs n d) ms
+      (λ e. let b = bind_some (content_members i f) (write f d) ms e in typed f d b.0 b.1) (λ e. kind_typed i fs n d ms e) h

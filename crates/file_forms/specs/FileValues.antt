@@ -15,10 +15,11 @@ use Rattle.doc_values.specs.Documents.{more_docs, doc_list}
 use Rattle.doc_values.specs.Integers.{fits_i64}
 use Rattle.file_forms.specs.declared.literal.Literal.{Literal}
 use Rattle.file_forms.specs.Forms.{FileFormTree, as_literal, as_bool, as_truths, as_int, as_text, as_enum, as_words}
-use Rattle.file_forms.specs.Forms.{as_number, as_object, as_tagged, as_bare, as_items, as_map, FormFields, no_forms}
-use Rattle.file_forms.specs.Forms.{more_forms}
+use Rattle.file_forms.specs.Forms.{as_number, as_object, as_tagged, as_bare, as_kinded, as_items, as_map, FormFields}
+use Rattle.file_forms.specs.Forms.{no_forms, more_forms}
 use Rattle.file_forms.specs.Numbers.{is_number}
-use Rattle.file_forms.specs.Orders.{by_name}
+use Rattle.file_forms.specs.Orders.{by_name, first_named, without, joined, all_named}
+use Rattle.file_forms.specs.Beside.{is_object_form}
 use Rattle.file_forms.specs.Slots.{literal_slot, is_literal, takes}
 
 -- ---- numbers
@@ -118,6 +119,33 @@ only_read read (member k j (member l i ms)) = None
 abbrev pub tagged_slot : List ℕ → Json → Option Json
 tagged_slot n j = Some (object (member n j no_members))
 
+-- ---- contents in objects that have another member too
+
+-- the slot of a content whose members stand beside others, from these members; null has none of them
+abbrev pub slot_beside : FileFormTree → Members → Option (Option Json)
+slot_beside (as_literal l) no_members = Some (literal_slot l)
+slot_beside (as_literal l) (member k j ms) = None
+slot_beside f ms = if is_object_form f then Some (Some (object ms)) else None
+
+-- the slot of a content, from the members beside the added one: one of them, and there is no other, or all
+abbrev pub content_slot : Option (List ℕ) → FileFormTree → Members → Option (Option Json)
+content_slot (Some c) f ms = if all_named c ms then Some (first_named c ms) else None
+content_slot None f ms = slot_beside f ms
+
+-- the members of an object
+abbrev pub object_members : Option Json → Option Members
+object_members (Some (object ms)) = Some ms
+object_members s = None
+
+-- the members that such a slot is written as
+abbrev pub members_beside : FileFormTree → Option Json → Option Members
+members_beside (as_literal l) s = Some no_members
+members_beside f s = if is_object_form f then object_members s else None
+
+abbrev pub content_members : Option (List ℕ) → FileFormTree → Option Json → Option Members
+content_members (Some c) f s = Some (with_slot c s no_members)
+content_members None f s = members_beside f s
+
 -- ---- reading
 
 -- The document of the form's type that a slot is; none where no document is written so. The members of an object are
@@ -135,6 +163,9 @@ abbrev mutual
   read (as_object fs) (Some (object ms)) = option_map rec (read_fields fs (by_name ms))
   read (as_tagged fs) (Some (object ms)) = only_read (read_tag fs) (by_name ms)
   read (as_bare fs) s = read_bare fs s
+  read (as_kinded h ws fs) (Some (object ms)) =
+      option_and_then (λ n. option_map (alt n) (read_kind h.inside fs n (without h.name (by_name ms))))
+      (word_of ws (first_named h.name (by_name ms)))
   read (as_items f) (Some (array js)) = option_map listed_doc (items_read (λ j. read f (Some j)) js)
   read (as_map f) (Some (object ms)) =
       option_and_then (keyed_doc (keys (by_name ms))) (members_read (λ j. read f (Some j)) (by_name ms))
@@ -150,6 +181,12 @@ abbrev mutual
   pub read_tag : FormFields → List ℕ → Json → Option DocTree
   read_tag no_forms k j = None
   read_tag (more_forms n f fs) k j = if bytes_eq n k then read f (Some j) else read_tag fs k j
+
+  -- the content of a tag, from the members beside its kind
+  pub read_kind : Option (List ℕ) → FormFields → List ℕ → Members → Option DocTree
+  read_kind i no_forms n ms = None
+  read_kind i (more_forms m f fs) n ms =
+      if bytes_eq m n then option_and_then (read f) (content_slot i f ms) else read_kind i fs n ms
 
   -- the first tag whose form takes the slot
   pub read_bare : FormFields → Option Json → Option DocTree
@@ -172,6 +209,8 @@ abbrev mutual
   write (as_object fs) (rec ds) = option_map object_slot (write_fields fs ds)
   write (as_tagged fs) (alt n d) = option_map (tagged_slot n) (option_flatten (write_tag fs n d))
   write (as_bare fs) (alt n d) = write_tag fs n d
+  write (as_kinded h ws fs) (alt n d) = option_map object_slot
+      (option_and_then (λ s. option_and_then (joined h.name s) (write_kind h.inside fs n d)) (word_slot ws n))
   write (as_items f) (hold (ListOf s) ds) =
       if nat_eq s.count (length (doc_list ds)) then option_map array_slot (items_written (write f) ds) else None
   write (as_map f) (hold (KeyedOf ks) ds) =
@@ -183,6 +222,12 @@ abbrev mutual
   write_fields (more_forms n f fs) (more_docs d ds) =
       option_and_then (λ s. option_map (with_slot n s) (write_fields fs ds)) (write f d)
   write_fields _ _ = None
+
+  -- the members beside the kind that the content of a tag is written as
+  pub write_kind : Option (List ℕ) → FormFields → List ℕ → DocTree → Option Members
+  write_kind i no_forms n d = None
+  write_kind i (more_forms m f fs) n d =
+      if bytes_eq m n then option_and_then (content_members i f) (write f d) else write_kind i fs n d
 
   pub write_tag : FormFields → List ℕ → DocTree → Option (Option Json)
   write_tag no_forms n d = None

@@ -4,6 +4,7 @@ use Rattle.std.specs.Prelude.{ℕ, ℤ, List, [], ◌∷◌, map}
 use Rattle.doc_values.specs.Types.{TyTree, ty_unit, ty_bool, ty_int, ty_text, ty_enum, ty_rec, ty_alt, ty_list}
 use Rattle.doc_values.specs.Types.{ty_keyed, FieldTrees, no_fields, more_fields}
 use Rattle.file_forms.specs.declared.literal.Literal.{Literal}
+use Rattle.file_forms.specs.declared.held.Held.{Held}
 use Rattle.file_forms.specs.declared.form.FileForm.{FileForm, fold-FileForm}
 use Rattle.file_forms.specs.declared.form.FileForm.TheOpen.{FileForm-F}
 
@@ -20,7 +21,8 @@ word_literals (w ∷ ws) = w.1 ∷ word_literals ws
 -- how a file has a document: null, or another literal in its place; a bool, or a literal for each truth value, that of
 -- false first; a number; a string; a member of an enum as a string, or as the literal of that member; a text as a number
 -- with these letters; a record as an object with a member for each field that is there; alternatives as an object with
--- the tag as its one member, or as the content alone; a list as an array; a keyed map as an object
+-- the tag as its one member, as the content alone, or as an object with one more member, which has the literal of the
+-- tag; a list as an array; a keyed map as an object
 mutual
   pub data FileFormTree : Type 0 where
     as_literal : Literal → FileFormTree
@@ -34,6 +36,7 @@ mutual
     as_object : FormFields → FileFormTree
     as_tagged : FormFields → FileFormTree
     as_bare : FormFields → FileFormTree
+    as_kinded : Held → List (List ℕ × Literal) → FormFields → FileFormTree
     as_items : FileFormTree → FileFormTree
     as_map : FileFormTree → FileFormTree
 
@@ -65,6 +68,7 @@ abbrev mutual
   type_of (as_object fs) = ty_rec (types_of fs)
   type_of (as_tagged fs) = ty_alt (types_of fs)
   type_of (as_bare fs) = ty_alt (types_of fs)
+  type_of (as_kinded h ws fs) = ty_alt (types_of fs)
   type_of (as_items f) = ty_list (type_of f)
   type_of (as_map f) = ty_keyed (type_of f)
 
@@ -85,6 +89,7 @@ file_form_step (FileForm-F.Number s) = as_number s
 file_form_step (FileForm-F.Object fs) = as_object (form_fields_of fs.items)
 file_form_step (FileForm-F.Tagged fs) = as_tagged (form_fields_of fs.items)
 file_form_step (FileForm-F.Bare fs) = as_bare (form_fields_of fs.items)
+file_form_step (FileForm-F.Kinded h ws fs) = as_kinded h ws.items (form_fields_of fs.items)
 file_form_step (FileForm-F.Items f) = as_items f.value
 file_form_step (FileForm-F.Map f) = as_map f.value
 

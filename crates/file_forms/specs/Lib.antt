@@ -2,6 +2,7 @@ pub mod Forms
 pub mod Numbers
 pub mod Orders
 pub mod Slots
+pub mod Beside
 pub mod Signs
 pub mod Fitting
 pub mod Misfits

@@ -1,16 +1,19 @@
 -- Where and why a form is not fit. From the end: `first_misfit`, and `own_misfit` of a form without its parts.
-use Rattle.std.specs.Prelude.{ℕ, Bool, ◌&&◌, if◌then◌else◌, List, [], ◌∷◌, Option, Some, None, option_map}
+use Rattle.std.specs.Prelude.{ℕ, Bool, ◌&&◌, bytes_eq, if◌then◌else◌, List, [], ◌∷◌, Option, Some, None, option_map}
 use Rattle.texts.specs.Keys.{is_before, has_name}
 use Rattle.file_forms.specs.declared.misfit.FormFault.{FormFault}
 use Rattle.file_forms.specs.declared.misfit.FormFault.TheVariants.{FieldOrder, TagTwice, SameSlot, NotANumber}
-use Rattle.file_forms.specs.declared.misfit.FormFault.TheVariants.{MemberTwice, SameLiteral}
+use Rattle.file_forms.specs.declared.misfit.FormFault.TheVariants.{SameLiteral, OtherTags, NotAnObject, MemberTwice}
 use Rattle.file_forms.specs.declared.misfit.FormStep.{FormStep}
 use Rattle.file_forms.specs.declared.misfit.FormStep.TheVariants.{Named, Inside}
 use Rattle.file_forms.specs.declared.misfit.FormMisfit.{FormMisfit}
+use Rattle.doc_values.specs.Types.{are_same_names}
 use Rattle.file_forms.specs.declared.literal.Literal.{Literal}
+use Rattle.file_forms.specs.declared.held.Held.{Held}
 use Rattle.file_forms.specs.Forms.{FileFormTree, as_literal, as_truths, as_words, as_object, as_tagged, as_bare}
-use Rattle.file_forms.specs.Forms.{as_items, as_map, FormFields, no_forms, more_forms, form_names, word_names}
-use Rattle.file_forms.specs.Forms.{word_literals}
+use Rattle.file_forms.specs.Forms.{as_kinded, as_items, as_map, FormFields, no_forms, more_forms, form_names}
+use Rattle.file_forms.specs.Forms.{word_names, word_literals}
+use Rattle.file_forms.specs.Beside.{has_members, claims}
 use Rattle.file_forms.specs.Slots.{literal_slot, is_literal, is_any, meets_any}
 use Rattle.file_forms.specs.Fitting.{is_writable}
 
@@ -78,8 +81,24 @@ truths_misfit f t =
 -- what is wrong with members and their literals
 abbrev pub words_misfit : List (List ℕ × Literal) → Option Misfit
 words_misfit ws =
-    first_of (option_map (at_field MemberTwice) (member_twice ws))
+    first_of (option_map (at_field TagTwice) (member_twice ws))
     (first_of (option_map (at_field SameLiteral) (same_literal ws)) (option_map (at_field NotANumber) (not_writable ws)))
+
+-- why a content may not be in the member of the second name beside the added one, or beside the added one itself
+abbrev pub held_fault : List ℕ → Option (List ℕ) → FileFormTree → Option FormFault
+held_fault n (Some c) f = if bytes_eq c n then Some MemberTwice else None
+held_fault n None f = if has_members f then (if claims f n then Some MemberTwice else None) else Some NotAnObject
+
+-- the misfit of the first tag whose content may not be there
+abbrev pub held_misfit : Held → FormFields → Option Misfit
+held_misfit h no_forms = None
+held_misfit h (more_forms n f fs) =
+    first_of (option_map (λ fault. at_field fault n) (held_fault h.name h.inside f)) (held_misfit h fs)
+
+-- what is wrong with kinds: with their literals, with the tags that have them, or with what they stand beside
+abbrev pub kinds_misfit : Held → List (List ℕ × Literal) → FormFields → Option Misfit
+kinds_misfit h ws fs = first_of (words_misfit ws)
+    (first_of (if are_same_names (word_names ws) (form_names fs) then None else Some ([], OtherTags)) (held_misfit h fs))
 
 -- what is wrong with a form, whatever its parts are
 abbrev pub own_misfit : FileFormTree → Option Misfit
@@ -90,6 +109,7 @@ own_misfit (as_object fs) = option_map (at_field FieldOrder) (out_of_order fs)
 own_misfit (as_tagged fs) = option_map (at_field TagTwice) (tag_twice fs)
 own_misfit (as_bare fs) =
     first_of (option_map (at_field TagTwice) (tag_twice fs)) (option_map (at_field SameSlot) (same_slot fs))
+own_misfit (as_kinded h ws fs) = kinds_misfit h ws fs
 own_misfit _ = None
 
 -- what is wrong first: a form comes before its parts, and parts come in their order
@@ -98,6 +118,7 @@ abbrev mutual
   first_misfit (as_object fs) = first_of (own_misfit (as_object fs)) (part_misfit fs)
   first_misfit (as_tagged fs) = first_of (own_misfit (as_tagged fs)) (part_misfit fs)
   first_misfit (as_bare fs) = first_of (own_misfit (as_bare fs)) (part_misfit fs)
+  first_misfit (as_kinded h ws fs) = first_of (own_misfit (as_kinded h ws fs)) (part_misfit fs)
   first_misfit (as_items f) = option_map (inside Inside) (first_misfit f)
   first_misfit (as_map f) = option_map (inside Inside) (first_misfit f)
   first_misfit f = own_misfit f

@@ -1,9 +1,11 @@
 -- The order of the members of objects. Two trees are the same up to that order where `sorted` makes them one tree.
-use Rattle.std.specs.Prelude.{ℕ, List, Option, Some, None, bytes_eq, if◌then◌else◌}
+use Rattle.std.specs.Prelude.{ℕ, Bool, true, ◌&&◌, List, Option, Some, None, bytes_eq, if◌then◌else◌}
 use Rattle.std.specs.Ordering.{nat_cmp, match_ordering}
 use Rattle.std.specs.Cmp.Lexicographic.{slice_cmp}
 use Rattle.json.specs.Json.{Json, null, boolean, number, string, array, object, Items, no_items, item, Members}
 use Rattle.json.specs.Json.{no_members, member}
+use Rattle.json.specs.Strict.{keys}
+use Rattle.texts.specs.Keys.{has_name}
 
 -- the members with one more, in byte order of the names; it comes in place of a member of its name
 abbrev pub put : List ℕ → Json → Members → Members
@@ -33,6 +35,25 @@ abbrev mutual
   pub sorted_members : Members → Members
   sorted_members no_members = no_members
   sorted_members (member k j ms) = put k (sorted j) (sorted_members ms)
+
+-- the members with one more, if its slot is not empty
+abbrev pub put_slot : List ℕ → Option Json → Members → Members
+put_slot n None ms = ms
+put_slot n (Some j) ms = put n j ms
+
+-- the members with one more, which is none of them
+abbrev pub joined : List ℕ → Option Json → Members → Option Members
+joined n s ms = if has_name n (keys ms) then None else Some (put_slot n s ms)
+
+-- the members without those of a name
+abbrev pub without : List ℕ → Members → Members
+without n no_members = no_members
+without n (member k j ms) = if bytes_eq n k then without n ms else member k j (without n ms)
+
+-- every member has the name
+abbrev pub all_named : List ℕ → Members → Bool
+all_named n no_members = true
+all_named n (member k j ms) = bytes_eq n k && all_named n ms
 
 -- the content of the first member with a name
 abbrev pub first_named : List ℕ → Members → Option Json

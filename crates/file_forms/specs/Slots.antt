@@ -5,8 +5,8 @@ use Rattle.json.specs.Json.{Json, null, boolean, number, string, array, object}
 use Rattle.file_forms.specs.declared.literal.Literal.{Literal}
 use Rattle.file_forms.specs.declared.literal.Literal.TheVariants.{Gone, Null, Bool as Truth, Number, Text}
 use Rattle.file_forms.specs.Forms.{FileFormTree, as_literal, as_bool, as_truths, as_int, as_text, as_enum, as_words}
-use Rattle.file_forms.specs.Forms.{as_number, as_object, as_tagged, as_bare, as_items, as_map, FormFields, no_forms}
-use Rattle.file_forms.specs.Forms.{more_forms, word_literals}
+use Rattle.file_forms.specs.Forms.{as_number, as_object, as_tagged, as_bare, as_kinded, as_items, as_map, FormFields}
+use Rattle.file_forms.specs.Forms.{no_forms, more_forms, word_literals}
 
 -- what a literal stands for
 abbrev pub literal_slot : Literal → Option Json
@@ -87,6 +87,7 @@ sign (as_number s) = any_of numbers
 sign (as_object fs) = any_of objects
 sign (as_tagged fs) = any_of objects
 sign (as_bare fs) = any_of others
+sign (as_kinded h ws fs) = any_of objects
 sign (as_items f) = any_of arrays
 sign (as_map f) = any_of objects
 

@@ -8,15 +8,16 @@ ghost use Rattle.file_forms.specs.Slots.{sign_meets, sign_meets_any, meets_any, 
 ghost use Rattle.file_forms.specs.Slots.{some_literal_meets};
 ghost use Rattle.file_forms.specs.Misfits.{misfit_view, inside, at_field, literal_misfit, out_of_order, tag_twice};
 ghost use Rattle.file_forms.specs.Misfits.{same_slot, own_misfit, first_misfit, part_misfit, truths_misfit};
-ghost use Rattle.file_forms.specs.Misfits.{words_misfit};
+ghost use Rattle.file_forms.specs.Misfits.{words_misfit, held_misfit, kinds_misfit};
 ghost use Rattle.file_forms.specs.declared.misfit.FormStep.TheVariants.{Inside};
 
 use crate::form::FileForm;
+use crate::held::{Held, held_fault};
 use crate::literal::Literal;
 use crate::misfit::{FormFault, FormMisfit, FormStep};
 use crate::sign::{Sign, clash, sign_of};
 use crate::words::{
-    is_writable, member_twice, not_writable, same_literal, sign_meets_truths, sign_meets_words,
+    are_same_names, is_writable, member_twice, not_writable, same_literal, sign_meets_truths, sign_meets_words,
 };
 use std::alloc::{AllocError, Global};
 use texts::{Name, Twin};
@@ -41,6 +42,7 @@ pub(crate) fn first_misfit(alloc: Global, form: &FileForm) -> Result<Option<Form
         FileForm::Object(fields) => part_misfit(alloc, fields),
         FileForm::Tagged(tags) => part_misfit(alloc, tags),
         FileForm::Bare(tags) => part_misfit(alloc, tags),
+        FileForm::Kinded(_, _, tags) => part_misfit(alloc, tags),
         FileForm::Items(inner) => inside(first_misfit(alloc, inner)?),
         FileForm::Map(inner) => inside(first_misfit(alloc, inner)?),
     }
@@ -96,6 +98,9 @@ fn own_misfit(alloc: Global, form: &FileForm) -> Result<Option<FormMisfit>, Allo
         }
         FileForm::Tagged(tags) => at_field(alloc, FormFault::TagTwice, tag_twice(tags.as_slice())),
         FileForm::Bare(tags) => bare_misfit(alloc, tags.as_slice()),
+        FileForm::Kinded(held, words, tags) => {
+            kinds_misfit(alloc, held, words.as_slice(), tags.as_slice())
+        }
         FileForm::Items(_) => Ok(None),
         FileForm::Map(_) => Ok(None),
     }
@@ -125,13 +130,51 @@ fn truths_misfit(alloc: Global, no: &Literal, yes: &Literal) -> Option<FormMisfi
 fn words_misfit(alloc: Global, words: &[(Name, Literal)]) -> Result<Option<FormMisfit>, AllocError>
     ensures { IfOk result (λ misfit. option_map misfit_view misfit ≡ words_misfit words.now) }
 {
-    if let Some(misfit) = at_field(alloc, FormFault::MemberTwice, member_twice(words))? {
+    if let Some(misfit) = at_field(alloc, FormFault::TagTwice, member_twice(words))? {
         return Ok(Some(misfit));
     }
     match at_field(alloc, FormFault::SameLiteral, same_literal(words))? {
         Some(misfit) => Ok(Some(misfit)),
         None => at_field(alloc, FormFault::NotANumber, not_writable(words)),
     }
+}
+
+// What is wrong with kinds: with their literals, with the tags that have them, or with what they stand beside.
+fn kinds_misfit(
+    alloc: Global,
+    held: &Held,
+    words: &[(Name, Literal)],
+    tags: &[(Name, FileForm)],
+) -> Result<Option<FormMisfit>, AllocError>
+    ensures { IfOk result (λ misfit. option_map misfit_view misfit
+        ≡ kinds_misfit held.now words.now (forms_view tags.now)) }
+{
+    if let Some(misfit) = words_misfit(alloc, words)? {
+        return Ok(Some(misfit));
+    }
+    if !are_same_names(words, tags) {
+        return Ok(Some(FormMisfit {
+            place: Vec::new(alloc),
+            fault: FormFault::OtherTags,
+        }));
+    }
+    held_misfit(alloc, held, tags)
+}
+
+// The misfit of the first tag whose content may not be where the form says.
+fn held_misfit(
+    alloc: Global,
+    held: &Held,
+    tags: &[(Name, FileForm)],
+) -> Result<Option<FormMisfit>, AllocError>
+    ensures { IfOk result (λ misfit. option_map misfit_view misfit ≡ held_misfit held.now (forms_view tags.now)) }
+{
+    for tag in tags {
+        if let Some(fault) = held_fault(held, &tag.1) {
+            return at_field(alloc, fault, Some(&tag.0));
+        }
+    }
+    Ok(None)
 }
 
 // The misfit at a field, a tag or a member, if there is one.
@@ -189,7 +232,7 @@ fn tag_twice(tags: &[(Name, FileForm)]) -> Option<&Name>
     None
 }
 
-fn has_tag(tags: &[(Name, FileForm)], name: &Name) -> bool
+pub(crate) fn has_tag(tags: &[(Name, FileForm)], name: &Name) -> bool
     ensures { result ≡ has_name name.now (form_names (forms_view tags.now)) }
 {
     for tag in tags {

@@ -6,6 +6,7 @@ ghost use Rattle.file_forms.specs.Fitting.{is_fit};
 ghost use Rattle.file_forms.specs.Misfits.{misfit_view, first_misfit};
 
 use crate::fit;
+use crate::held::Held;
 use crate::literal::Literal;
 use crate::misfit::FormMisfit;
 use std::alloc::{AllocError, Global};
@@ -37,6 +38,9 @@ pub enum FileForm {
     Tagged(Vec<(Name, FileForm)>),
     /// Alternatives as the content alone.
     Bare(Vec<(Name, FileForm)>),
+    /// Alternatives as an object with one more member, the kind, which has the literal of the tag. Each tag has its
+    /// literal and its content.
+    Kinded(Held, Vec<(Name, Literal)>, Vec<(Name, FileForm)>),
     /// A list as an array.
     Items(Box<FileForm>),
     /// A keyed map as an object.
@@ -46,10 +50,11 @@ pub enum FileForm {
 impl FileForm {
     /// Where the form is not fit, and why; none if it is fit.
     ///
-    /// A form is fit if four things hold in all its parts. The fields of a record rise by bytes. Tags are distinct,
+    /// A form is fit if five things hold in all its parts. The fields of a record rise by bytes. Tags are distinct,
     /// and no tree could be of two tags whose content is written alone. Members of an enum are distinct, and so are
-    /// their literals, and those of false and true. A literal that is a number has the letters of one. A form comes
-    /// before its parts, and parts come in their order. Fails only if memory runs out.
+    /// their literals, and those of false and true. A literal that is a number has the letters of one. Kinds are
+    /// those of the tags, in order, and a content that stands beside one is an object without a member of that name, or
+    /// null. A form comes before its parts, and parts come in their order. Fails only if memory runs out.
     pub fn misfit(&self, alloc: Global) -> Result<Option<FormMisfit>, AllocError>
         ensures first { IfOk result (λ misfit. option_map misfit_view misfit
             ≡ first_misfit (file_form_tree self.now)) }

@@ -3,6 +3,7 @@
 
 mod fit;
 mod form;
+mod held;
 pub mod laws;
 mod literal;
 mod misfit;
@@ -11,6 +12,7 @@ mod sort;
 mod words;
 
 pub use crate::form::FileForm;
+pub use crate::held::{Held, is_object_form};
 pub use crate::literal::Literal;
 pub use crate::misfit::{FormFault, FormMisfit, FormStep};
 pub use crate::sort::Sort;

@@ -11,14 +11,18 @@ use texts::Name;
 pub enum FormFault {
     /// A field of a record is not after the field before it, in byte order.
     FieldOrder,
-    /// A tag comes again.
+    /// A tag, or a member of an enum, comes again.
     TagTwice,
     /// A content that is written alone may look like that of a later tag.
     SameSlot,
-    /// A member of an enum comes again.
-    MemberTwice,
     /// A literal of a member is also that of a later one, or false and true have one literal.
     SameLiteral,
+    /// The kinds of alternatives are not those of their tags, in order.
+    OtherTags,
+    /// A content is to stand beside another member, and is no object.
+    NotAnObject,
+    /// A content has the name of the member beside it.
+    MemberTwice,
     /// A literal is a number, and its letters are not those of a number of JSON.
     NotANumber,
 }

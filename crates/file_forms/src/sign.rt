@@ -32,6 +32,7 @@ pub(crate) fn sign_of(form: &FileForm) -> Sign<'_>
         FileForm::Object(_) => Sign::AnyOf(Sort::Objects),
         FileForm::Tagged(_) => Sign::AnyOf(Sort::Objects),
         FileForm::Bare(_) => Sign::AnyOf(Sort::Others),
+        FileForm::Kinded(_, _, _) => Sign::AnyOf(Sort::Objects),
         FileForm::Items(_) => Sign::AnyOf(Sort::Arrays),
         FileForm::Map(_) => Sign::AnyOf(Sort::Objects),
     }

@@ -2,12 +2,14 @@
 
 ghost use Rattle.std.specs.Prelude.{◌≡◌, [], ◌∷◌, IfOk, option_map};
 ghost use Rattle.texts.specs.Keys.{has_name};
-ghost use Rattle.file_forms.specs.Forms.{word_names, word_literals};
+ghost use Rattle.doc_values.specs.Types.{are_same_names};
+ghost use Rattle.file_forms.specs.Forms.{word_names, word_literals, forms_view, form_names};
 ghost use Rattle.file_forms.specs.Signs.{sign_view};
 ghost use Rattle.file_forms.specs.Slots.{literal_slot, is_any, sign_meets_literals};
 ghost use Rattle.file_forms.specs.Fitting.{is_writable};
 ghost use Rattle.file_forms.specs.Misfits.{member_twice, same_literal, not_writable};
 
+use crate::form::FileForm;
 use crate::literal::Literal;
 use crate::sign::{Sign, clash};
 use json::is_number;
@@ -47,6 +49,21 @@ fn has_member(words: &[(Name, Literal)], name: &Name) -> bool
         }
     }
     false
+}
+
+// Whether the members are the tags, in order.
+pub(crate) fn are_same_names(words: &[(Name, Literal)], tags: &[(Name, FileForm)]) -> bool
+    ensures { result ≡ are_same_names (word_names words.now) (form_names (forms_view tags.now)) }
+{
+    if words.len() != tags.len() {
+        return false;
+    }
+    for i in 0..words.len() {
+        if !words[i].0.is_same(&tags[i].0) {
+            return false;
+        }
+    }
+    true
 }
 
 // The first member with the literal of a later one.

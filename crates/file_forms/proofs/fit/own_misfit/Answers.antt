@@ -1,8 +1,8 @@
 use Rattle.std.proofs.Common.{◌≡◌, IfOk, option_map, subst, sym, ap, ◌∙◌}
 use Rattle.file_forms.specs.Forms.{as_bare, file_form_tree, forms_view}
-use Rattle.file_forms.specs.Misfits.{misfit_view, at_field, out_of_order, tag_twice, own_misfit}
+use Rattle.file_forms.specs.Misfits.{misfit_view, at_field, out_of_order, tag_twice, own_misfit, kinds_misfit}
 use Rattle.file_forms.specs.declared.misfit.FormFault.TheVariants.{FieldOrder, TagTwice}
-use Rattle.file_forms.proofs.FormParts.{form-Object, form-Tagged, form-Bare}
+use Rattle.file_forms.proofs.FormParts.{form-Object, form-Tagged, form-Bare, form-Kinded}
 use Rattle.file_forms.proofs.fit.own_misfit.Goals as goal
 
 pub returns-in-Object : goal.returns-in-Object
@@ -22,3 +22,11 @@ returns-in-Bare c =
     let tags = ap (λ fs. own_misfit (as_bare (forms_view fs))) c.as_slice-in-Bare.ensures.value in
     let form = ap file_form_tree c.in-Bare.is ∙ form-Bare c.in-Bare.tags in
     subst (λ x. IfOk c.bare_misfit.result (λ m. option_map misfit_view m ≡ x)) (tags ∙ sym (ap own_misfit form)) c.bare_misfit.ensures
+
+pub returns-in-Kinded : goal.returns-in-Kinded
+returns-in-Kinded c =
+    let k = c.in-Kinded in
+    let words = ap (λ ws. kinds_misfit k.held ws (forms_view c.as_slice-in-Kinded-2.result.now)) c.as_slice-in-Kinded.ensures.value in
+    let tags = ap (λ fs. kinds_misfit k.held k.words.items (forms_view fs)) c.as_slice-in-Kinded-2.ensures.value in
+    let form = ap file_form_tree k.is ∙ form-Kinded k.held k.words k.tags in
+    subst (λ x. IfOk c.kinds_misfit.result (λ m. option_map misfit_view m ≡ x)) (words ∙ tags ∙ sym (ap own_misfit form)) c.kinds_misfit.ensures
