@@ -79,7 +79,7 @@ first_alone n (member k j ms) h =
 
 -- ---- what is taken out is put back
 
-greater : (k n : List ℕ) → is_before k n ≡ true → slice_cmp nat_cmp n k ≡ Greater
+pub greater : (k n : List ℕ) → is_before k n ≡ true → slice_cmp nat_cmp n k ≡ Greater
 greater k n h = nat_list_cmp_total.antisymm n k ∙ ap ordering_reverse (is_less (slice_cmp nat_cmp k n) h)
 
 pub put_back : (n : List ℕ) (j : Json) (ms : Members) → is_rising (keys ms) ≡ true → first_named n ms ≡ Some j → put n j (without n ms) ≡ ms
@@ -108,7 +108,7 @@ put_out_by Equal n l j i ms more e h c ih =
     let no : true ≡ false = sym (ap (bytes_eq n) (sym (slice_cmp-IsAntisymmetric nat_cmp-IsAntisymmetric n l c)) ∙ bytes_eq-refl n) ∙ e in cc
 put_out_by Greater n l j i ms more e h c ih = ap (λ b. cond b (without n more) (member l i (without n more))) e ∙ ap (member l i) ih
 
-neither_named : (b c : Bool) → (b || c) ≡ false → (b ≡ false) × (c ≡ false)
+pub neither_named : (b c : Bool) → (b || c) ≡ false → (b ≡ false) × (c ≡ false)
 neither_named true c h = cc
 neither_named false c h = (refl, h)
 

@@ -1,8 +1,11 @@
 pub mod IntRanges
 pub mod IntReading
 pub mod WriteLoops
+pub mod Places
 pub mod WrittenTrees
 pub mod SortedFields
+pub mod NamedMembers
+pub mod KindReadings
 pub mod ReadingReads
 pub mod ReadTrees
 pub mod ReadLoops

@@ -12,18 +12,25 @@ use Rattle.texts.specs.Keys.{is_before, is_rising, has_name}
 use Rattle.texts.proofs.Conjunction.{first as left, second as right}
 use Rattle.texts.proofs.KeyOrder.{bytes_eq-refl, before-differs, rising-first}
 use Rattle.hold_shapes.specs.declared.shape.Shape.TheVariants.{Keyed as KeyedOf}
-use Rattle.doc_values.specs.Types.{are_distinct}
+use Rattle.doc_values.specs.Types.{are_distinct, are_same_names}
 use Rattle.doc_values.specs.Documents.{DocTree, unit, truth, int, text, pick, rec, alt, hold, DocTrees, more_docs}
-use Rattle.file_forms.specs.Forms.{FileFormTree, as_literal, as_bool, as_truths, as_int, as_text, as_enum, as_words, as_number, as_object, as_tagged, as_bare, as_items, as_map, FormFields, no_forms, more_forms, form_names}
-use Rattle.file_forms.specs.Orders.{put, by_name, first_named}
+use Rattle.file_forms.specs.Forms.{FileFormTree, as_literal, as_bool, as_truths, as_int, as_text, as_enum, as_words, as_number, as_object, as_tagged, as_bare, as_kinded, as_items, as_map, FormFields, no_forms, more_forms, form_names, word_names}
+use Rattle.file_forms.specs.Orders.{put, by_name, first_named, without, all_named}
+use Rattle.file_forms.proofs.SortedMembers.{named-by_name}
+use Rattle.file_forms.specs.Beside.{all_stand}
+use Rattle.file_forms.specs.declared.literal.Literal.{Literal}
+use Rattle.file_forms.specs.declared.held.Held.{Held}
 use Rattle.file_forms.specs.Slots.{is_literal, takes, are_told_apart}
-use Rattle.file_forms.specs.Fitting.{is_fit, are_fit}
+use Rattle.file_forms.specs.Fitting.{is_fit, are_fit, are_words}
 use Rattle.file_forms.specs.Numbers.{is_number}
-use Rattle.file_forms.specs.FileValues.{truth_of, word_of, int_text, listed_doc, keyed_doc, items_read, members_read, only_read, read, read_tag, read_bare}
+use Rattle.file_forms.specs.FileValues.{truth_of, word_of, int_text, listed_doc, keyed_doc, items_read, members_read, only_read, content_slot, read, read_tag, read_kind, read_bare}
 use Rattle.file_forms.proofs.Sorting.{by_name-is_rising}
 use Rattle.file_values.specs.declared.misfit.ReadCause.{ReadCause}
 use Rattle.file_values.specs.declared.misfit.FileStep.{FileStep}
-use Rattle.file_values.specs.Reading.{Misfit, ok_or, map_ok, and_then, inside, stranger, unless_stranger, all_named, one_member, one_reading, items_reading, members_reading, reading, fields_reading, tag_reading, bare_reading}
+use Rattle.file_values.specs.declared.misfit.FileStep.TheVariants.{Member}
+use Rattle.file_values.specs.Reading.{Misfit, ok_or, map_ok, and_then, inside, stranger, unless_stranger, one_member, kind_in, held_inside, slot_reading, kind_reading, one_reading, items_reading, members_reading, reading, fields_reading, tag_reading, bare_reading}
+use Rattle.file_values.proofs.NamedMembers.{all_named-by_name}
+use Rattle.file_values.proofs.KindReadings.{without-by_name, content_agrees}
 use Rattle.file_values.proofs.SortedFields.{all_known, named_fields, other, fields_by_name}
 
 -- ---- outcomes and options
@@ -70,31 +77,6 @@ map_cond true o = refl
 map_cond false o = refl
 
 -- ---- one member
-
-named-put_by : (o : Ordering) (n k l : List ℕ) (j i : Json) (ms : Members) → slice_cmp nat_cmp k l ≡ o → all_named n (put k j ms) ≡ (bytes_eq n k && all_named n ms)
-    → all_named n (match_ordering o (member k j (member l i ms)) (member l j ms) (member l i (put k j ms))) ≡ (bytes_eq n k && (bytes_eq n l && all_named n ms))
-named-put_by Less n k l j i ms e h = refl
-named-put_by Equal n k l j i ms e h =
-    let same : k ≡ l = slice_cmp-IsAntisymmetric nat_cmp-IsAntisymmetric k l e in
-    twice (bytes_eq n l) (all_named n ms) ∙ ap (λ x. bytes_eq n x && (bytes_eq n l && all_named n ms)) (sym same)
-  where
-    twice : (a b : Bool) → (a && b) ≡ (a && (a && b))
-    twice true b = refl
-    twice false b = refl
-named-put_by Greater n k l j i ms e h = ap (λ b. bytes_eq n l && b) h ∙ swapped (bytes_eq n l) (bytes_eq n k) (all_named n ms)
-  where
-    swapped : (a b c : Bool) → (a && (b && c)) ≡ (b && (a && c))
-    swapped true b c = refl
-    swapped false true c = refl
-    swapped false false c = refl
-
-named-put : (n k : List ℕ) (j : Json) (ms : Members) → all_named n (put k j ms) ≡ (bytes_eq n k && all_named n ms)
-named-put n k j no_members = refl
-named-put n k j (member l i ms) = named-put_by (slice_cmp nat_cmp k l) n k l j i ms refl (named-put n k j ms)
-
-all_named-by_name : (n : List ℕ) (ms : Members) → all_named n (by_name ms) ≡ all_named n ms
-all_named-by_name n no_members = refl
-all_named-by_name n (member k j ms) = named-put n k j (by_name ms) ∙ ap (λ b. bytes_eq n k && b) (all_named-by_name n ms)
 
 -- with one more, members are at least two
 never_one_by : (read : List ℕ → Json → Option DocTree) (o : Ordering) (l k m : List ℕ) (i j h : Json) (ms : Members) (v : Option DocTree)
@@ -154,6 +136,13 @@ keyed : (ks : List (List ℕ)) (o : Option DocTrees) → is_rising ks ≡ true �
 keyed ks None h = refl
 keyed ks (Some ds) h = sym (ap (λ b. cond b (Some (hold (KeyedOf ks) ds)) None) h)
 
+-- ---- kinds
+
+kind_by : (o : Option (List ℕ)) (n : List ℕ) (cause : ReadCause) (r : List ℕ → Result DocTree Misfit) (read : List ℕ → Option DocTree) → ((t : List ℕ) → result_ok (r t) ≡ read t)
+    → result_ok (and_then (λ t. map_ok (alt t) (r t)) (inside (Member n) (ok_or cause o))) ≡ option_and_then (λ t. option_map (alt t) (read t)) o
+kind_by None n cause r read h = refl
+kind_by (Some t) n cause r read h = ok_map (alt t) (r t) (read t) (h t)
+
 -- ---- forms
 
 mutual
@@ -182,6 +171,12 @@ mutual
       one_agrees (tag_reading fs) (read_tag fs) (λ n j. tag_agrees fs n j (right (are_distinct (form_names fs)) (are_fit fs) k)) ms
   agrees (as_tagged fs) s k = refl
   agrees (as_bare fs) s k = bare_agrees fs s (right (are_distinct (form_names fs) && are_told_apart fs) (are_fit fs) k)
+  agrees (as_kinded h ws fs) (Some (object ms)) k =
+      let fit = right (are_words ws && (are_same_names (word_names ws) (form_names fs) && all_stand h fs)) (are_fit fs) k in
+      kind_by (word_of ws (first_named h.name ms)) h.name _ (λ t. kind_reading h.inside fs t (without h.name ms)) (λ t. read_kind h.inside fs t (by_name (without h.name ms)))
+      (λ t. kind_agrees h.inside fs t (without h.name ms) fit)
+      ∙ ap₂ (λ ns s. option_and_then (λ t. option_map (alt t) (read_kind h.inside fs t ns)) (word_of ws s)) (sym (without-by_name h.name ms)) (sym (named-by_name h.name ms))
+  agrees (as_kinded h ws fs) s k = refl
   agrees (as_items f) (Some (array js)) k =
       ok_map listed_doc (items_reading (λ j. reading f (Some j)) 0 js) (items_read (λ j. read f (Some j)) js)
       (items_agree (λ j. reading f (Some j)) (λ j. read f (Some j)) (λ j. agrees f (Some j) k) 0 js)
@@ -204,6 +199,12 @@ mutual
   tag_agrees (more_forms m f fs) n j k =
       ok_cond (bytes_eq m n) (inside _ (reading f (Some j))) (tag_reading fs n j) (read f (Some j)) (read_tag fs n j)
       (ok_inside _ (reading f (Some j)) ∙ agrees f (Some j) (left (is_fit f) (are_fit fs) k)) (tag_agrees fs n j (right (is_fit f) (are_fit fs) k))
+
+  kind_agrees : (i : Option (List ℕ)) (fs : FormFields) (n : List ℕ) (ms : Members) → are_fit fs ≡ true → result_ok (kind_reading i fs n ms) ≡ read_kind i fs n (by_name ms)
+  kind_agrees i no_forms n ms k = refl
+  kind_agrees i (more_forms m f fs) n ms k =
+      ok_cond (bytes_eq m n) (and_then (λ s. held_inside i (reading f s)) (slot_reading i f ms)) (kind_reading i fs n ms) (option_and_then (read f) (content_slot i f (by_name ms))) (read_kind i fs n (by_name ms))
+      (content_agrees i f ms (λ s. agrees f s (left (is_fit f) (are_fit fs) k))) (kind_agrees i fs n ms (right (is_fit f) (are_fit fs) k))
 
   bare_agrees : (fs : FormFields) (s : Option Json) → are_fit fs ≡ true → result_ok (bare_reading fs s) ≡ read_bare fs s
   bare_agrees no_forms s k = refl

@@ -13,15 +13,18 @@ use Rattle.doc_values.specs.Documents.{more_docs}
 use Rattle.file_trees.specs.FileTrees.{file_tree}
 use Rattle.file_trees.specs.declared.tree.FileTree.{FileTree}
 use Rattle.file_forms.specs.Forms.{FileFormTree, as_literal, as_bool, as_truths, as_int, as_text, as_enum, as_words}
-use Rattle.file_forms.specs.Forms.{as_number, as_object, as_tagged, as_bare, as_items, as_map, FormFields, no_forms}
-use Rattle.file_forms.specs.Forms.{more_forms, form_names}
+use Rattle.file_forms.specs.declared.literal.Literal.{Literal}
+use Rattle.file_forms.specs.Forms.{as_number, as_object, as_tagged, as_bare, as_kinded, as_items, as_map, FormFields}
+use Rattle.file_forms.specs.Forms.{no_forms, more_forms, form_names}
+use Rattle.file_forms.specs.Beside.{is_object_form}
 use Rattle.file_forms.specs.Numbers.{is_number}
-use Rattle.file_forms.specs.Orders.{by_name, first_named}
-use Rattle.file_forms.specs.Slots.{is_literal, takes}
+use Rattle.file_forms.specs.Orders.{by_name, first_named, without, all_named}
+use Rattle.file_forms.specs.Slots.{literal_slot, is_literal, takes}
 use Rattle.file_forms.specs.FileValues.{truth_of, word_of, int_text, listed_doc}
 use Rattle.file_values.specs.declared.misfit.ReadCause.{ReadCause}
 use Rattle.file_values.specs.declared.misfit.ReadCause.TheVariants.{Missing, OtherSort, OtherLiteral, NotAnInt}
 use Rattle.file_values.specs.declared.misfit.ReadCause.TheVariants.{NotANumber, NotAMember, NoField, NotOneTag, NoTag}
+use Rattle.file_values.specs.declared.misfit.ReadCause.TheVariants.{NoKind}
 use Rattle.file_values.specs.declared.misfit.FileStep.{FileStep}
 use Rattle.file_values.specs.declared.misfit.FileStep.TheVariants.{Member, Item}
 use Rattle.file_values.specs.declared.misfit.FileMisfit.{FileMisfit}
@@ -100,11 +103,6 @@ unless_stranger (Some k) ms = inside (Member k) (not_so NoField)
 abbrev pub known_members : List (List ℕ) → Option Json → Result Members Misfit
 known_members ns s = and_then (λ ms. unless_stranger (stranger ns ms) ms) (members_in s)
 
--- every member has the name
-abbrev pub all_named : List ℕ → Members → Bool
-all_named k no_members = true
-all_named k (member l j ms) = bytes_eq k l && all_named k ms
-
 -- the name and the content of the one member of an object, which may come again under its name
 abbrev pub one_member : Members → Option (List ℕ × Json)
 one_member no_members = None
@@ -137,6 +135,27 @@ pick_in ms s = if has_name s ms then Ok (pick s) else not_so NotAMember
 abbrev pub number_text : List ℕ → Result DocTree Misfit
 number_text s = if is_number s then Ok (text s) else not_so NotANumber
 
+-- ---- contents in objects that have another member too
+
+-- the tag, by the member that says the kind
+abbrev pub kind_in : List ℕ → List (List ℕ × Literal) → Members → Result (List ℕ) Misfit
+kind_in n ws ms = inside (Member n) (ok_or NoKind (word_of ws (first_named n ms)))
+
+-- the slot of a content whose members stand beside another one, from these members
+abbrev pub beside_reading : FileFormTree → Members → Result (Option Json) Misfit
+beside_reading (as_literal l) ms = map_ok (λ ns. literal_slot l) (unless_stranger (stranger [] ms) ms)
+beside_reading f ms = if is_object_form f then Ok (Some (object ms)) else not_so OtherSort
+
+-- the slot of a content, from the members beside the added one: one of them, and there is no other, or all
+abbrev pub slot_reading : Option (List ℕ) → FileFormTree → Members → Result (Option Json) Misfit
+slot_reading (Some c) f ms = map_ok (first_named c) (unless_stranger (stranger (c ∷ []) ms) ms)
+slot_reading None f ms = beside_reading f ms
+
+-- the outcome of a content, seen from the object
+abbrev pub held_inside : Option (List ℕ) → Result DocTree Misfit → Result DocTree Misfit
+held_inside (Some c) r = inside (Member c) r
+held_inside None r = r
+
 -- ---- reading
 
 -- The document that a slot is, or the first part of it that is not as the form has it. Of an object with fields, the
@@ -155,6 +174,8 @@ abbrev mutual
   reading (as_object fs) s = map_ok rec (and_then (fields_reading fs) (known_members (form_names fs) s))
   reading (as_tagged fs) s = and_then (λ ms. one_reading (tag_reading fs) (one_member ms)) (members_in s)
   reading (as_bare fs) s = bare_reading fs s
+  reading (as_kinded h ws fs) s = and_then (λ ms.
+      and_then (λ n. map_ok (alt n) (kind_reading h.inside fs n (without h.name ms))) (kind_in h.name ws ms)) (members_in s)
   reading (as_items f) s = map_ok listed_doc (and_then (items_reading (λ j. reading f (Some j)) 0) (items_in s))
   reading (as_map f) s = and_then (map_reading (λ j. reading f (Some j))) (members_in s)
 
@@ -168,6 +189,12 @@ abbrev mutual
   tag_reading no_forms k j = not_so NotOneTag
   tag_reading (more_forms n f fs) k j =
       if bytes_eq n k then inside (Member k) (reading f (Some j)) else tag_reading fs k j
+
+  -- the content of a tag, from the members beside its kind
+  pub kind_reading : Option (List ℕ) → FormFields → List ℕ → Members → Result DocTree Misfit
+  kind_reading i no_forms n ms = not_so NotOneTag
+  kind_reading i (more_forms m f fs) n ms = if bytes_eq m n
+      then and_then (λ s. held_inside i (reading f s)) (slot_reading i f ms) else kind_reading i fs n ms
 
   -- the first tag whose form takes the slot
   pub bare_reading : FormFields → Option Json → Result DocTree Misfit

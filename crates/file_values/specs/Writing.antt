@@ -1,6 +1,7 @@
 -- What a writer returns, and what loops of a writer have made so far.
-use Rattle.std.specs.Prelude.{◌≡◌, ℕ, List, [], ◌∷◌, Option, Some, None, Result, Ok, Err, option_map}
+use Rattle.std.specs.Prelude.{◌≡◌, ℕ, suc, if◌then◌else◌, List, [], ◌∷◌, Option, Some, None, Result, Ok, Err, option_map}
 use Rattle.json.specs.Json.{Json, Items, item, Members, member}
+use Rattle.texts.specs.Keys.{is_before}
 use Rattle.file_trees.specs.FileTrees.{file_tree}
 use Rattle.file_trees.specs.declared.tree.FileTree.{FileTree}
 use Rattle.file_values.specs.declared.fault.WriteFault.{WriteFault}
@@ -19,6 +20,11 @@ Refuses NoMemory written = Unit {0}
 abbrev pub Writes : {X Y : Type 0} → (X → Y) → Result X WriteFault → Option Y → Type 0
 Writes view (Ok x) written = written ≡ Some (view x)
 Writes view (Err fault) written = Refuses fault written
+
+-- the place of the first member that is not before a name
+abbrev pub place_of : List ℕ → List (List ℕ × FileTree) → ℕ
+place_of n [] = 0
+place_of n (m ∷ ms) = if is_before m.0 n then suc (place_of n ms) else 0
 
 -- the members, and then the rest
 abbrev pub then_members : List (List ℕ × FileTree) → Members → Members

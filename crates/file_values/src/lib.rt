@@ -1,7 +1,9 @@
 //! Documents in users' files, by a form: a document is written as the tree of a file, and read from one.
 #![tactic(auto)]
 
+mod copies;
 mod fault;
+mod kinds;
 pub mod laws;
 mod members;
 mod misfit;

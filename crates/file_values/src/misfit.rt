@@ -25,6 +25,8 @@ pub enum ReadCause {
     NotAMember,
     /// No field of the record has this member.
     NoField,
+    /// The member that says the kind has the literal of no tag.
+    NoKind,
     /// The object does not have exactly one member, a tag.
     NotOneTag,
     /// No tag has a content that is written so.

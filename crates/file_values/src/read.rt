@@ -7,22 +7,23 @@ ghost use Rattle.hold_shapes.specs.declared.shape.Shape.TheVariants.{Keyed as Ke
 ghost use Rattle.doc_values.specs.Documents.{DocTree, alt, hold, doc_tree, docs_tree};
 ghost use Rattle.file_trees.specs.FileTrees.{file_tree, items_view, members_view};
 ghost use Rattle.file_forms.specs.Forms.{as_literal, as_truths, as_int, as_text, as_enum, as_words, as_number};
-ghost use Rattle.file_forms.specs.Forms.{as_bare};
+ghost use Rattle.file_forms.specs.Forms.{as_bare, as_kinded};
 ghost use Rattle.file_forms.specs.Forms.{file_form_tree, forms_view};
-ghost use Rattle.file_forms.specs.Orders.{sorted};
+ghost use Rattle.file_forms.specs.Orders.{sorted, without};
 ghost use Rattle.file_forms.specs.Fitting.{is_fit};
 ghost use Rattle.file_forms.specs.FileValues.{int_text, listed_doc, read, write};
 ghost use Rattle.file_values.specs.Reading.{Misfit, Reads, slot_of, inside, map_ok, one_member, one_reading};
-ghost use Rattle.file_values.specs.Reading.{items_reading, map_reading, reading, fields_reading, tag_reading};
+ghost use Rattle.file_values.specs.Reading.{items_reading, map_reading, reading, fields_reading, tag_reading, kind_reading};
 ghost use Rattle.file_values.specs.Reading.{lent_members};
 ghost use Rattle.file_values.specs.declared.misfit.FileStep.TheVariants.{Member, Item};
 
+use crate::kinds::{beside, kind_in, only_member};
 use crate::members::{by_name, first_named, known_members, names_of, one_member};
 use crate::misfit::{ReadCause, ReadFault};
 use crate::slots::{is_literal, items_in, members_in, number_in, string_in, takes, truth_in};
 use crate::words::{truth_of, word_of};
 use doc_values::{Doc, Docs, has_text};
-use file_forms::{FileForm, Literal};
+use file_forms::{FileForm, Held, Literal};
 use file_trees::FileTree;
 use hold_shapes::{KeyedShape, ListShape, Shape};
 use itoa::Buffer;
@@ -67,6 +68,7 @@ fn read(alloc: Global, form: &FileForm, slot: Option<&FileTree>) -> Result<Doc, 
         }
         FileForm::Tagged(tags) => read_tagged(alloc, tags, members_in(alloc, slot)?),
         FileForm::Bare(tags) => read_bare(alloc, tags, slot),
+        FileForm::Kinded(held, words, tags) => read_kinded(alloc, held, words, tags, slot),
         FileForm::Items(inner) => Ok(listed(read_items(alloc, inner, items_in(alloc, slot)?)?)),
         FileForm::Map(inner) => read_map(alloc, inner, members_in(alloc, slot)?),
     }
@@ -239,6 +241,48 @@ fn read_bare(
         }
     }
     Err(ReadFault::here(alloc, ReadCause::NoTag))
+}
+
+// Alternatives, from an object with a member that says the kind.
+#[cycle(read)]
+fn read_kinded(
+    alloc: Global,
+    held: &Held,
+    words: &Vec<(Name, Literal)>,
+    tags: &Vec<(Name, FileForm)>,
+    slot: Option<&FileTree>,
+) -> Result<Doc, ReadFault>
+    ensures { Reads doc_tree result
+        (reading (as_kinded held.now words.now.items (forms_view tags.now.items)) (slot_of slot.entry)) }
+{
+    let members = members_in(alloc, slot)?;
+    let tag = kind_in(alloc, &held.name, words.as_slice(), members)?;
+    with_tag(alloc, tag, read_kind(alloc, held, tags, tag, members))
+}
+
+// The content of a tag, from the members of an object that has its kind.
+#[cycle(read)]
+fn read_kind(
+    alloc: Global,
+    held: &Held,
+    tags: &Vec<(Name, FileForm)>,
+    name: &Name,
+    members: &[(Name, FileTree)],
+) -> Result<Doc, ReadFault>
+    ensures { Reads doc_tree result (kind_reading held.now.inside (forms_view tags.now.items) name.now
+        (without held.now.name (members_view members.now))) }
+{
+    for tag in tags {
+        if tag.0.is_same(name) {
+            if let Some(inside) = &held.inside {
+                let slot = only_member(alloc, &held.name, inside, members)?;
+                return in_member(alloc, read(alloc, &tag.1, slot), inside.as_str());
+            }
+            let slot = beside(alloc, &held.name, &tag.1, members)?;
+            return read(alloc, &tag.1, slot.as_ref());
+        }
+    }
+    Err(ReadFault::here(alloc, ReadCause::NotOneTag))
 }
 
 // The content under its tag.

@@ -190,6 +190,7 @@ pub(crate) fn takes(form: &FileForm, slot: Option<&FileTree>) -> bool
         FileForm::Object(_) => Sort::Objects.is_same(sort_of(slot)),
         FileForm::Tagged(_) => Sort::Objects.is_same(sort_of(slot)),
         FileForm::Bare(tags) => any_takes(tags, slot),
+        FileForm::Kinded(_, _, _) => Sort::Objects.is_same(sort_of(slot)),
         FileForm::Items(_) => Sort::Arrays.is_same(sort_of(slot)),
         FileForm::Map(_) => Sort::Objects.is_same(sort_of(slot)),
     }

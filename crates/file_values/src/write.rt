@@ -1,6 +1,7 @@
 //! Writing a document as the tree of a file.
 
-ghost use Rattle.std.specs.Prelude.{◌≡◌, true, Some, None, IfOk, OnOk, option_map, if◌then◌else◌};
+ghost use Rattle.std.specs.Prelude.{◌≡◌, true, Some, None, IfOk, OnOk, option_map, option_and_then};
+ghost use Rattle.std.specs.Prelude.{if◌then◌else◌};
 ghost use Rattle.std.specs.Option.{option_flatten};
 ghost use Rattle.std.specs.Fmt.{signed_decimal};
 ghost use Rattle.json.specs.Json.{Members, number, string};
@@ -8,19 +9,22 @@ ghost use Rattle.json.specs.Tree.{HasNumbers};
 ghost use Rattle.texts.specs.Keys.{has_name};
 ghost use Rattle.doc_values.specs.Documents.{hold, doc_tree, docs_tree};
 ghost use Rattle.doc_values.specs.Integers.{fits_i64};
-ghost use Rattle.file_trees.specs.FileTrees.{file_tree};
+ghost use Rattle.file_trees.specs.FileTrees.{file_tree, members_view};
 ghost use Rattle.file_forms.specs.Forms.{as_items, as_map, file_form_tree, forms_view};
 ghost use Rattle.file_forms.specs.Fitting.{is_fit};
 ghost use Rattle.file_forms.specs.Numbers.{is_number};
 ghost use Rattle.file_forms.specs.Slots.{literal_slot};
 ghost use Rattle.file_forms.specs.FileValues.{read, write, write_fields, write_tag, with_slot, word_slot};
+ghost use Rattle.file_forms.specs.FileValues.{write_kind};
+ghost use Rattle.file_forms.specs.Orders.{joined};
 ghost use Rattle.file_forms.specs.FileValues.{object_slot, tagged_slot};
 ghost use Rattle.file_values.specs.Writing.{Writes, slot_view, then_members};
 
 use crate::fault::WriteFault;
+use crate::kinds::{content_members, joined};
 use crate::words::{truth_literal, word_literal};
 use doc_values::{Doc, Docs, is_list_of};
-use file_forms::{FileForm, Literal};
+use file_forms::{FileForm, Held, Literal};
 use file_trees::FileTree;
 use hold_shapes::Shape;
 use json::is_number;
@@ -74,13 +78,16 @@ fn write(alloc: Global, form: &FileForm, doc: &Doc) -> Result<Option<FileTree>, 
             tagged(alloc, tag, write_tag(alloc, tags, tag, content)?)
         }
         (FileForm::Bare(tags), Doc::Alt(tag, content)) => write_tag(alloc, tags, tag, content),
+        (FileForm::Kinded(held, words, tags), Doc::Alt(tag, content)) => {
+            with_kind(alloc, &held.name, word_literal(words.as_slice(), tag), write_kind(alloc, held, tags, tag, content)?)
+        }
         (FileForm::Items(inner), Doc::Hold(shape, docs)) => write_items(alloc, inner, shape, docs),
         (FileForm::Map(inner), Doc::Hold(shape, docs)) => write_map(alloc, inner, shape, docs),
         _ => Err(WriteFault::NoFile),
     }
 }
 
-fn write_literal(alloc: Global, literal: &Literal) -> Result<Option<FileTree>, AllocError>
+pub(crate) fn write_literal(alloc: Global, literal: &Literal) -> Result<Option<FileTree>, AllocError>
     ensures { IfOk result (λ slot. slot_view slot ≡ literal_slot literal.now) }
 {
     match literal {
@@ -161,7 +168,7 @@ fn write_object(
 }
 
 // One more member, unless there is nothing in its place.
-fn push_member(
+pub(crate) fn push_member(
     alloc: Global,
     members: &mut Vec<(Name, FileTree)>,
     name: &Name,
@@ -210,6 +217,44 @@ fn write_tag(
         }
     }
     Err(WriteFault::NoFile)
+}
+
+// The members beside its kind that the content of a tag is written as.
+#[cycle(write)]
+fn write_kind(
+    alloc: Global,
+    held: &Held,
+    tags: &Vec<(Name, FileForm)>,
+    tag: &Name,
+    content: &Doc,
+) -> Result<Vec<(Name, FileTree)>, WriteFault>
+    ensures { Writes (λ v. members_view v.items) result
+        (write_kind held.now.inside (forms_view tags.now.items) tag.now (doc_tree content.now)) }
+{
+    for form in tags {
+        if form.0.is_same(tag) {
+            let slot = write(alloc, &form.1, content)?;
+            return content_members(alloc, held, &form.1, slot);
+        }
+    }
+    Err(WriteFault::NoFile)
+}
+
+// An object with the members of a content and its kind.
+fn with_kind(
+    alloc: Global,
+    name: &Name,
+    literal: Option<&Literal>,
+    members: Vec<(Name, FileTree)>,
+) -> Result<Option<FileTree>, WriteFault>
+    ensures { Writes slot_view result (option_map object_slot (option_and_then
+        (λ s. joined name.now s (members_view members.items)) (option_map (λ l. literal_slot l.now) literal.entry))) }
+{
+    let Some(literal) = literal else {
+        return Err(WriteFault::NoFile);
+    };
+    let kind = write_literal(alloc, literal)?;
+    joined(alloc, name, kind, members)
 }
 
 // An array with an item for each content.

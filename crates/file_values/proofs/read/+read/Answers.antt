@@ -9,9 +9,9 @@ use Rattle.doc_values.specs.declared.doc.Doc.{Doc}
 use Rattle.file_trees.specs.FileTrees.{file_tree, members_view}
 use Rattle.file_forms.specs.declared.literal.Literal.{Literal}
 use Rattle.file_forms.specs.Orders.{by_name}
-use Rattle.file_forms.specs.Forms.{FileFormTree, as_int, as_text, as_enum, as_words, as_number, form_names, file_form_tree, forms_view}
+use Rattle.file_forms.specs.Forms.{FileFormTree, as_int, as_text, as_enum, as_words, as_number, as_kinded, form_names, file_form_tree, forms_view}
 use Rattle.file_forms.specs.declared.form.FileForm.{FileForm, Int, Text, Enum, Words, Number, the_lemmas}
-use Rattle.file_forms.proofs.FormParts.{form-Object}
+use Rattle.file_forms.proofs.FormParts.{form-Object, form-Kinded}
 use Rattle.file_values.specs.Reading.{Misfit, Reads, slot_of, lent_members, fault_view, map_ok, inside, known_members, members_reading, map_reading, reading}
 use Rattle.file_values.specs.declared.misfit.FileStep.TheVariants.{Member}
 use Rattle.file_values.specs.declared.misfit.ReadFault.{ReadFault}
@@ -65,6 +65,12 @@ pub read-returns-in-Number : goal.read-returns-in-Number
 read-returns-in-Number t c =
     let s = c.in-Number.field-0 in
     by_form c.read_number.result c.args.form.now (as_number s) (slot_of c.args.slot) (ap file_form_tree c.in-Number.is ∙ form-Number s) (c.read_number.ensures s)
+
+pub read-returns-in-Kinded : goal.read-returns-in-Kinded
+read-returns-in-Kinded t c =
+    let k = c.in-Kinded in
+    by_form c.read_kinded.result c.args.form.now (as_kinded k.held k.words.items (forms_view k.tags.items)) (slot_of c.args.slot)
+    (ap file_form_tree k.is ∙ form-Kinded k.held k.words k.tags) c.read_kinded.ensures
 
 pub read-returns-in_err-members-in-Object : goal.read-returns-in_err-members-in-Object
 read-returns-in_err-members-in-Object t c =

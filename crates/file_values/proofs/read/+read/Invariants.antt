@@ -2,8 +2,8 @@ use Rattle.std.proofs.Common.{◌≡◌, drop, map, Some}
 use Rattle.doc_values.specs.Documents.{doc_tree}
 use Rattle.file_trees.specs.FileTrees.{file_tree, items_view, members_view}
 use Rattle.file_forms.specs.Forms.{file_form_tree, forms_view}
-use Rattle.file_forms.specs.Orders.{by_name}
-use Rattle.file_values.specs.Reading.{slot_of, items_reading, members_reading, reading, fields_reading, tag_reading, bare_reading, lent_members}
+use Rattle.file_forms.specs.Orders.{by_name, without}
+use Rattle.file_values.specs.Reading.{slot_of, items_reading, members_reading, reading, fields_reading, tag_reading, kind_reading, bare_reading, lent_members}
 use Rattle.file_values.proofs.ReadLoops.{after}
 use Rattle.file_values.proofs.read.+read.Given as goal
 
@@ -29,3 +29,8 @@ abbrev pub invariant-read_map-loop-name : goal.invariant-read_map-loop-name
 invariant-read_map-loop-name l =
     members_reading (λ j. reading (file_form_tree l.inner.value) (Some j)) (by_name (members_view l.members))
     ≡ after (map doc_tree l.docs.items) (members_reading (λ j. reading (file_form_tree l.inner.value) (Some j)) (lent_members l.name-iterator))
+
+abbrev pub invariant-read_kind-loop-tag : goal.invariant-read_kind-loop-tag
+invariant-read_kind-loop-tag l =
+    kind_reading l.held.inside (forms_view (drop l.tag-index l.tag-items)) l.name (without l.held.name (members_view l.members))
+    ≡ kind_reading l.held.inside (forms_view l.tag-items) l.name (without l.held.name (members_view l.members))

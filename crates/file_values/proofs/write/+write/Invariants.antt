@@ -1,7 +1,7 @@
 use Rattle.std.proofs.Common.{◌≡◌, drop, map}
 use Rattle.doc_values.specs.Documents.{doc_tree, docs_tree, docs_of}
 use Rattle.file_forms.specs.Forms.{file_form_tree, forms_view}
-use Rattle.file_forms.specs.FileValues.{items_written, members_written, write, write_fields, write_tag}
+use Rattle.file_forms.specs.FileValues.{items_written, members_written, write, write_fields, write_tag, write_kind}
 use Rattle.file_values.proofs.WriteLoops.{fields_from, items_from, keys_from}
 use Rattle.file_values.proofs.write.+write.Given as goal
 
@@ -24,3 +24,7 @@ abbrev pub invariant-write_map-loop-i : goal.invariant-write_map-loop-i
 invariant-write_map-loop-i l =
     members_written (write (file_form_tree l.inner.value)) l.names (docs_tree l.docs)
     ≡ keys_from (write (file_form_tree l.inner.value)) l.members.items (drop l.i l.names) (docs_of (map doc_tree l.contents))
+
+abbrev pub invariant-write_kind-loop-form : goal.invariant-write_kind-loop-form
+invariant-write_kind-loop-form l =
+    write_kind l.held.inside (forms_view (drop l.form-index l.form-items)) l.tag (doc_tree l.content) ≡ write_kind l.held.inside (forms_view l.form-items) l.tag (doc_tree l.content)
