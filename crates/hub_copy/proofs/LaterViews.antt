@@ -1,5 +1,4 @@
 -- A view can always be added whose lens may stand behind the others.
--- Lemmas, which stand here since the laws of an `impl` rest on them.
 use Rattle.std.proofs.Common.{◌≡◌, true, List, [], ◌∷◌, length, Option, Some, Result, Ok, Err, refl, ap, subst}
 use Rattle.std.specs.Prelude.{ℕ, option_map, nat_lt}
 use Rattle.texts.specs.declared.side.Side.TheVariants.{Left, Right}

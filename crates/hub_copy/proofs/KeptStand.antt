@@ -1,11 +1,9 @@
 -- The payloads that are kept stand for a hub with the views of all.
--- Lemmas, which stand here since the laws of an `impl` cite them.
 use Rattle.std.proofs.Common.{◌≡◌, ℕ, zero, suc, ◌+◌, ◌<◌, Bool, true, false, cond, List, [], ◌∷◌, ◌++◌}
 use Rattle.std.proofs.Common.{append_assoc, append-nil, length, take, drop, Option, Some, None, Result, Ok, Err}
-use Rattle.std.proofs.Common.{refl, sym, ap, subst, ◌∙◌, arith}
+use Rattle.std.proofs.Common.{refl, sym, ap, ◌∙◌, arith}
 use Rattle.std.specs.Prelude.{option_map, option_and_then}
 use Rattle.lens_forms.specs.Forms.{FormTree}
-use Rattle.lens_forms.specs.Typing.{is_typed}
 use Rattle.store_records.specs.StoredLens.{form_of_text}
 use Rattle.store_records.specs.declared.record_fault.RecordFault.{RecordFault}
 use Rattle.store_records.specs.declared.record_fault.RecordFault.TheVariants.{NotConsistent}
@@ -20,18 +18,18 @@ use Rattle.hub_records.specs.HubStands.{HubStanding, after_add, after_hub_snapsh
 use Rattle.hub_records.specs.HubStands.{hub_after_payloads, hub_after_record, hub_after_step, hub_at_start, hub_from}
 use Rattle.hub_records.specs.HubStands.{hub_from_opening, hub_going_on, hub_step_of, stands_as_hub, view_more}
 use Rattle.hub_records.specs.HubStands.{with_view_form}
-use Rattle.hub_copy.specs.KeptRecords.{HasMoreViews, KeepsViews, added_views, is_view_more, kept_records}
-use Rattle.hub_copy.specs.LaterViews.{later_view, typed_text}
+use Rattle.hub_copy.specs.KeptRecords.{HasMoreViews, KeepsViews, added_views, is_view_more}
+use Rattle.hub_copy.proofs.LaterViews.{later_view, typed_text}
 
 -- ---- a record that was taken, and the others behind it
 
-abbrev Taken : (HubStanding → Result HubStanding RecordFault) → Result HubStanding RecordFault → HubStanding → Type 0
-Taken others r t = (s : HubStanding) × (r ≡ Ok s) × (others s ≡ Ok t)
+abbrev GoesOn : (HubStanding → Result HubStanding RecordFault) → Result HubStanding RecordFault → HubStanding → Type 0
+GoesOn others r t = (s : HubStanding) × (r ≡ Ok s) × (others s ≡ Ok t)
 
-taken : (others : HubStanding → Result HubStanding RecordFault) (r : Result HubStanding RecordFault) (t : HubStanding)
-    → hub_going_on others r ≡ Ok t → Taken others r t
-taken others (Ok s) t h = (s, refl, h)
-taken others (Err fault) t h = absurd cc
+goes_on : (others : HubStanding → Result HubStanding RecordFault) (r : Result HubStanding RecordFault) (t : HubStanding)
+    → hub_going_on others r ≡ Ok t → GoesOn others r t
+goes_on others (Ok s) t h = (s, refl, h)
+goes_on others (Err fault) t h = absurd cc
 
 abbrev forms_in : HubStanding → List FormTree
 forms_in s = s.forms
@@ -117,7 +115,7 @@ module _ (kept : List (List ℕ)) (w : HubStanding) (is : stands_as_hub kept ≡
 -- ---- the payloads that add views, behind some that are kept
 
 -- they stand for the same document as those alone, and have the lenses of the other hub
-record Grown (kept : List (List ℕ)) (w t : HubStanding) : Type 0 where
+record AddedBehind (kept : List (List ℕ)) (w t : HubStanding) : Type 0 where
   pub u : HubStanding
   pub is : stands_as_hub kept ≡ Ok u
   pub lenses : u.forms ≡ t.forms
@@ -143,13 +141,13 @@ module _ (n : ℕ) (s t : HubStanding) (p : List ℕ) (ps : List (List ℕ)) whe
   -- the payloads behind the first of these
   abbrev Rest : Type 0
   Rest = (x : HubStanding) (kept : List (List ℕ)) (w : HubStanding) → Others x ≡ Ok t → stands_as_hub kept ≡ Ok w
-      → w.forms ≡ x.forms → Grown (kept ++ added_views ps) w t
+      → w.forms ≡ x.forms → AddedBehind (kept ++ added_views ps) w t
 
   module _ (rest : Rest) (kept : List (List ℕ)) (w : HubStanding) (is : stands_as_hub kept ≡ Ok w)
       (same : w.forms ≡ s.forms) where
-    grown_view : (x : HubStanding) → Others x ≡ Ok t → (text : List ℕ) → hub_record_in p ≡ Some (add_record text)
-        → Adds n s x text → Grown (kept ++ p ∷ added_views ps) w t
-    grown_view x others text adds a =
+    view_added_behind : (x : HubStanding) → Others x ≡ Ok t → (text : List ℕ) → hub_record_in p ≡ Some (add_record text)
+        → Adds n s x text → AddedBehind (kept ++ p ∷ added_views ps) w t
+    view_added_behind x others text adds a =
         let may : joins w.forms a.lens ≡ true = ap (λ fs. joins fs a.lens) same ∙ a.may in
         let b = behind_kept kept w is p text a.lens adds a.found may in
         let forms : w.forms ++ a.lens ∷ [] ≡ x.forms = ap (λ fs. fs ++ a.lens ∷ []) same ∙ a.forms in
@@ -161,22 +159,22 @@ module _ (n : ℕ) (s t : HubStanding) (p : List ℕ) (ps : List (List ℕ)) whe
           more = views_later w g.u a.lens b.0 g.more;
         }
 
-    grown_by : (r : Option HubRecordTree) → hub_record_in p ≡ r → hub_going_on Others (hub_after_record n s r) ≡ Ok t
-        → Grown (kept ++ cond (is_view_more r) (p ∷ added_views ps) (added_views ps)) w t
-    grown_by None e h = absurd cc
-    grown_by (Some (change_record change)) e h =
-        let k = taken Others (hub_after_record n s (Some (change_record change))) t h in
+    record_added_behind : (r : Option HubRecordTree) → hub_record_in p ≡ r → hub_going_on Others (hub_after_record n s r) ≡ Ok t
+        → AddedBehind (kept ++ cond (is_view_more r) (p ∷ added_views ps) (added_views ps)) w t
+    record_added_behind None e h = absurd cc
+    record_added_behind (Some (change_record change)) e h =
+        let k = goes_on Others (hub_after_record n s (Some (change_record change))) t h in
         rest k.0 kept w k.2 is (same ∙ step_forms n s k.0 (hub_step_of s.forms s.hub change) k.1)
-    grown_by (Some (add_record text)) e h =
-        let k = taken Others (hub_after_record n s (Some (add_record text))) t h in
-        grown_view k.0 k.2 text e (adds_by n s k.0 text (joining_form s.forms (form_of_text text)) refl k.1)
-    grown_by (Some (snapshot_record d)) e h =
-        let k = taken Others (hub_after_record n s (Some (snapshot_record d))) t h in
+    record_added_behind (Some (add_record text)) e h =
+        let k = goes_on Others (hub_after_record n s (Some (add_record text))) t h in
+        view_added_behind k.0 k.2 text e (adds_by n s k.0 text (joining_form s.forms (form_of_text text)) refl k.1)
+    record_added_behind (Some (snapshot_record d)) e h =
+        let k = goes_on Others (hub_after_record n s (Some (snapshot_record d))) t h in
         rest k.0 kept w k.2 is (same ∙ snapshot_forms n s k.0 (hub_from s.forms d) k.1)
 
-grown : (n : ℕ) (s t : HubStanding) (ps kept : List (List ℕ)) (w : HubStanding) → hub_after_payloads n s ps ≡ Ok t
-    → stands_as_hub kept ≡ Ok w → w.forms ≡ s.forms → Grown (kept ++ added_views ps) w t
-grown n s t [] kept w h is same =
+views_added_behind : (n : ℕ) (s t : HubStanding) (ps kept : List (List ℕ)) (w : HubStanding) → hub_after_payloads n s ps ≡ Ok t
+    → stands_as_hub kept ≡ Ok w → w.forms ≡ s.forms → AddedBehind (kept ++ added_views ps) w t
+views_added_behind n s t [] kept w h is same =
     let end : s ≡ t = cc in
     record {
       u = w;
@@ -184,8 +182,8 @@ grown n s t [] kept w h is same =
       lenses = same ∙ ap forms_in end;
       more = same_views w;
     }
-grown n s t (p ∷ ps) kept w h is same =
-    grown_by n s t p ps (λ x others v more there forms. grown (n + 1) x t ps others v more there forms) kept w is same
+views_added_behind n s t (p ∷ ps) kept w h is same =
+    record_added_behind n s t p ps (λ x others v more there forms. views_added_behind (n + 1) x t ps others v more there forms) kept w is same
     (hub_record_in p) refl h
 
 -- ---- the first payloads
@@ -201,7 +199,7 @@ front : (number n : ℕ) (s t : HubStanding) (ps : List (List ℕ)) → hub_afte
 front zero n s t ps h = record { w = s; is = refl; next = n; rest = h }
 front (suc number) n s t [] h = record { w = s; is = refl; next = n; rest = h }
 front (suc number) n s t (p ∷ ps) h =
-    let k = taken (λ x. hub_after_payloads (n + 1) x ps) (hub_after_record n s (hub_record_in p)) t h in
+    let k = goes_on (λ x. hub_after_payloads (n + 1) x ps) (hub_after_record n s (hub_record_in p)) t h in
     let f = front number (n + 1) k.0 t ps k.2 in
     record {
       w = f.w;
@@ -217,7 +215,7 @@ from_front : (number : ℕ) (p : List ℕ) (ps : List (List ℕ)) (t : HubStandi
 from_front number p ps t (Some forms) e h =
     let f = front number 2 (hub_at_start forms) t ps h in
     let stood : stands_as_hub (p ∷ take number ps) ≡ Ok f.w = ap (hub_from_opening (take number ps)) e ∙ f.is in
-    let g = grown f.next f.w t (drop number ps) (p ∷ take number ps) f.w f.rest stood refl in
+    let g = views_added_behind f.next f.w t (drop number ps) (p ∷ take number ps) f.w f.rest stood refl in
     record { before = f.w; stood = stood; kept = g.u; stand = g.is; lenses = g.lenses; more = g.more }
 from_front number p ps t None e h = absurd cc
 
