@@ -5,7 +5,9 @@ use Rattle.doc_values.specs.Documents.{DocTrees, no_docs, more_docs, doc_list}
 use Rattle.bridge_core.specs.declared.bridge.Bridge.{Bridge, the_lemmas as bridge_lemmas}
 use Rattle.bridge_core.specs.declared.bridge.Bridge.TheVariants.{Same}
 use Rattle.bridge_core.specs.declared.bridge.Bridges.{Bridges, out-Bridges, the_lemmas as bridges_lemmas}
-use Rattle.bridge_core.specs.Bridges.{BridgeTree, same, more_bridges, bridges_of, bridge_at, put_bridge_at, same_each, bridge_tree, bridges_tree}
+use Rattle.bridge_core.specs.Bridges.{BridgeTree, same, BridgeTrees, more_bridges, bridges_of, bridge_list, bridge_at, put_bridge_at, bridges_after, same_each, bridge_tree, bridges_tree}
+use Rattle.hold_shapes.specs.declared.origins.Origin.{Origin}
+use Rattle.hold_shapes.specs.Gather.{content_at}
 use Rattle.bridge_core.proofs.BridgeLists.{list-of-bridges}
 
 pub bridges_tree-out : (bs : Bridges) → bridges_tree bs ≡ bridges_of (map bridge_tree (out-Bridges bs).items.items)
@@ -62,3 +64,13 @@ pub same-done : (bs : List Bridge) (n : ℕ) (ds : DocTrees) → map bridge_tree
 same-done bs n ds h all = ap bridges_of (h ∙ ap (λ (k : ℕ). replicate k same) all) ∙ same-all ds
 
 pub ruleset same_rules = (bridges_tree-out, same-more, same-done)
+
+-- ---- after a plan of a near list
+
+same-origins : (ys : List Origin) → map (λ (o : Origin). o) ys ≡ ys
+same-origins [] = refl
+same-origins (y ∷ ys) = ap (λ zs. y ∷ zs) (same-origins ys)
+
+pub after-all : (bs : BridgeTrees) (items : List Bridge) (ys from : List Origin) → map (λ (o : Origin). o) ys ≡ from → map bridge_tree items ≡ map (content_at (bridge_list bs) same) ys
+    → bridges_of (map bridge_tree items) ≡ bridges_after from bs
+after-all bs items ys from e h = ap bridges_of (h ∙ ap (map (content_at (bridge_list bs) same)) (sym (same-origins ys) ∙ e))

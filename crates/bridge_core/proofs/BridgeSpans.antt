@@ -8,7 +8,7 @@ use Rattle.texts.specs.Characters.{character_count, splice as spliced}
 use Rattle.texts.proofs.Conjunction.{first, second}
 use Rattle.bridge_texts.specs.declared.run.Run.{Run}
 use Rattle.bridge_texts.specs.Runs.{far_spliced, shortest}
-use Rattle.doc_values.specs.Documents.{DocTree, unit, text, rec, alt, DocTrees}
+use Rattle.doc_values.specs.Documents.{DocTree, unit, text, rec, alt, hold, DocTrees}
 use Rattle.doc_values.specs.Types.{TyTree, ty_unit, ty_bool, ty_int, ty_text, ty_enum, ty_rec, ty_alt, ty_list, ty_keyed, ty_ordered, FieldTrees, is_well_formed}
 use Rattle.doc_values.specs.Typing.{has, has_fields, lookup_field, lookup_type}
 use Rattle.doc_values.specs.Initial.{initial}
@@ -16,14 +16,16 @@ use Rattle.doc_values.proofs.FieldPlaces.{lookup_field-well_formed, lookup_type-
 use Rattle.edit_module.specs.declared.atom.Atom.{Atom}
 use Rattle.edit_module.specs.declared.fault.Cause.TheVariants.{Place, Tag, Range}
 use Rattle.hold_shapes.specs.declared.edit.Place.{Place as PlaceOf}
+use Rattle.hold_shapes.specs.declared.edit.Place.TheVariants.{Index, Key, Node}
 use Rattle.hold_shapes.specs.declared.edit.ShapeEdit.{ShapeEdit}
 use Rattle.edit_module.specs.Words.{PrimitiveTree, set, add, splice, at, stay, switch, modify, shape, WordTree, no_primitives, more_primitives}
 use Rattle.edit_module.specs.Action.{act, act_primitive, inner, map_ok, if_present, put_result_at, doc_at}
 use Rattle.edit_module.proofs.ActionKeepsTypes.{after_ok, present_ok, if_ok, map_ok_ok, inner_ok, in_ok, has_fields-at, content-has_type, has_primitive, well_formed-fields, well_formed-tags}
-use Rattle.bridge_core.specs.Bridges.{BridgeTree, same, other, lost, cells, parts, arm, away, bridge_at, put_bridge_at}
+use Rattle.bridge_core.specs.Bridges.{BridgeTree, same, other, lost, cells, parts, arm, away, linked, bridge_at, put_bridge_at}
 use Rattle.bridge_core.specs.Bridged.{for_found, with_splice, bridge_splice, parts_of, bridge_field, arm_of, bridge_stay, bridge_switch, bridge, bridge_primitive}
 use Rattle.bridge_core.specs.Spans.{is_plain, is_row, SpanTexts, AtType, Spans, SpanFields}
 use Rattle.bridge_core.proofs.TextLaws.{SameTexts, FarSplices}
+use Rattle.bridge_core.proofs.ListSpans.{LeadsOn, item-bridges, shape-bridges}
 use Rattle.bridge_core.proofs.BridgeLists.{same-fields, field-spans, far-field-set}
 
 -- what is known of both documents when a primitive has acted on the far one
@@ -84,6 +86,7 @@ module _ (same_texts : SameTexts) (far_splices : FarSplices) where
   splice-spans z (parts bs) i k x v r s h w e = record { kind_is = refl; near_has = h; far_has = refl }
   splice-spans z (arm a b) i k x v r s h w e = record { kind_is = refl; near_has = h; far_has = refl }
   splice-spans z (away a b) i k x v r s h w e = record { kind_is = refl; near_has = h; far_has = refl }
+  splice-spans z (linked ls m bs) i k x v r s h w e = record { kind_is = refl; near_has = h; far_has = refl }
 
   splice-text : (i k : ℕ) (x : List ℕ) (t : TyTree) (b : BridgeTree) (s v u : DocTree) → has t s ≡ true → Spans b t s v → act_primitive t (splice i k x) v ≡ Ok u → Spans (bridge_primitive t (splice i k x) v b) t s u
   splice-text i k x (ty_text z) b s (text v) u h w e =
@@ -112,9 +115,6 @@ module _ (same_texts : SameTexts) (far_splices : FarSplices) where
   has-parts (cells rs) fs (text s) es h k w = absurd w
   has-parts (cells rs) fs _ es h k w = absurd w
   has-parts _ fs _ es h k w = absurd w
-
-  abbrev pub LeadsOn : WordTree → Type 0
-  LeadsOn w = (t : TyTree) (b : BridgeTree) (s v u : DocTree) → is_well_formed t ≡ true → has t s ≡ true → has t v ≡ true → Spans b t s v → act t w v ≡ Ok u → Spans (bridge t w v b) t s u
 
   at-bridge : (fs : FieldTrees) (f : List ℕ) (w : WordTree) (b : BridgeTree) (es : DocTrees) (l : ℕ × TyTree) → lookup_field fs f ≡ Some l
       → bridge_primitive (ty_rec fs) (at f w) (rec es) b ≡ bridge_field (parts_of b es) l.0 (λ d. bridge l.1 w (doc_at es l.0) d)
@@ -199,17 +199,17 @@ module _ (same_texts : SameTexts) (far_splices : FarSplices) where
 
   -- ---- containers
 
-  modify-row : (t : TyTree) (p : PlaceOf) (w : WordTree) (v u : DocTree) → act_primitive t (modify p w) v ≡ Ok u → is_row t ≡ true
-  modify-row (ty_list t) p w v u e = refl
-  modify-row (ty_keyed t) p w v u e = refl
-  modify-row (ty_ordered t) p w v u e = refl
-  modify-row _ p w v u e = absurd cc
+  modify-bridges : (p : PlaceOf) (w : WordTree) → LeadsOn w → Bridges (modify p w)
+  modify-bridges (Index i) w k (ty_list t) b s (hold y es) u h = item-bridges i w k t b s y es u h.sound h.near h.far h.spans h.acts
+  modify-bridges (Key q) w k (ty_keyed t) b s v u h = record { kind_is = refl; near_has = h.near; far_has = now-has (ty_keyed t) (modify (Key q) w) b s v u h }
+  modify-bridges (Node q) w k (ty_ordered t) b s v u h = record { kind_is = refl; near_has = h.near; far_has = now-has (ty_ordered t) (modify (Node q) w) b s v u h }
+  modify-bridges _ w k _ b s _ u h = let e = h.acts in absurd cc
 
-  shape-row : (t : TyTree) (a : ShapeEdit) (v u : DocTree) → act_primitive t (shape a) v ≡ Ok u → is_row t ≡ true
-  shape-row (ty_list t) a v u e = refl
-  shape-row (ty_keyed t) a v u e = refl
-  shape-row (ty_ordered t) a v u e = refl
-  shape-row _ a v u e = absurd cc
+  shaped-bridges : (a : ShapeEdit) → Bridges (shape a)
+  shaped-bridges a (ty_list t) b s (hold y es) u h = shape-bridges a t b s y es u h.near h.far h.spans h.acts
+  shaped-bridges a (ty_keyed t) b s v u h = record { kind_is = refl; near_has = h.near; far_has = now-has (ty_keyed t) (shape a) b s v u h }
+  shaped-bridges a (ty_ordered t) b s v u h = record { kind_is = refl; near_has = h.near; far_has = now-has (ty_ordered t) (shape a) b s v u h }
+  shaped-bridges a _ b s _ u h = let e = h.acts in absurd cc
 
   -- ---- all words
 
@@ -228,5 +228,5 @@ module _ (same_texts : SameTexts) (far_splices : FarSplices) where
     primitive-bridges (at f w) t b s v u h = at-bridges f w (λ t' b' s' v' u' i j k l m. word-bridges w t' b' s' v' u' i j k l m) t b s v u h
     primitive-bridges (stay a w) t b s v u h = stay-bridges a w (λ t' b' s' v' u' i j k l m. word-bridges w t' b' s' v' u' i j k l m) t b s v u h
     primitive-bridges (switch a c w) t b s v u h = switch-bridges a c w t b s v u h
-    primitive-bridges (modify p w) t b s v u h = record { kind_is = modify-row t p w v u h.acts; near_has = h.near; far_has = now-has t (modify p w) b s v u h }
-    primitive-bridges (shape a) t b s v u h = record { kind_is = shape-row t a v u h.acts; near_has = h.near; far_has = now-has t (shape a) b s v u h }
+    primitive-bridges (modify p w) t b s v u h = modify-bridges p w (λ t' b' s' v' u' i j k l m. word-bridges w t' b' s' v' u' i j k l m) t b s v u h
+    primitive-bridges (shape a) t b s v u h = shaped-bridges a t b s v u h

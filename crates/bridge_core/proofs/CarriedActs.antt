@@ -24,66 +24,16 @@ use Rattle.edit_module.specs.Action.{Why, act, act_primitive, later, after, inne
 use Rattle.edit_module.specs.Laws.{in_turn}
 use Rattle.edit_module.proofs.ActionKeepsTypes.{after_ok, present_ok, if_ok, map_ok_ok, inner_ok, in_ok}
 use Rattle.edit_module.proofs.WordSteps.{act-joined}
-use Rattle.bridge_core.specs.Bridges.{BridgeTree, same, other, lost, cells, parts, arm, away, BridgeTrees, bridge_at, put_bridge_at}
+use Rattle.bridge_core.specs.Bridges.{BridgeTree, same, other, lost, cells, parts, arm, away, linked, BridgeTrees, bridge_at, put_bridge_at}
 use Rattle.bridge_core.specs.Carried.{WhyNot, gone, fails, Answer, if_there, passes, around, splices, carry_text, carry_at, carry_stay, carry_switch, in_front, then_carry, carry, carry_primitive}
 use Rattle.bridge_core.specs.Spans.{SpanTexts, AtType, Spans, SpanFields}
 use Rattle.bridge_core.specs.Laws.{BeginsAt, LeadsTo}
+use Rattle.bridge_core.proofs.CarriedParts.{Carries, IsCarried, then-ok, there-ok, around-ok, test-ok, leads-only, inner-later, leads-fails, begins}
+use Rattle.bridge_core.proofs.ListCarries.{item-carries, list-carries}
 use Rattle.bridge_core.proofs.TextLaws.{NearSplices}
 use Rattle.bridge_core.proofs.BridgeLists.{field-spans, field-set}
 
--- ---- answers
-
-behind-ok : (a : WordTree × BridgeTree) (o : Answer) (q : WordTree × BridgeTree) → in_front a.0 o ≡ Ok q → (c : WordTree × BridgeTree) × (o ≡ Ok c) × ((joined a.0 c.0, c.1) ≡ q)
-behind-ok a (Ok c) q k = (c, refl, cc)
-behind-ok a (Err why) q k = absurd cc
-
-pub then-ok : (r : Answer) (f : BridgeTree → Answer) (q : WordTree × BridgeTree) → then_carry r f ≡ Ok q
-    → (a : WordTree × BridgeTree) × (c : WordTree × BridgeTree) × (r ≡ Ok a) × (f a.1 ≡ Ok c) × ((joined a.0 c.0, c.1) ≡ q)
-then-ok (Err why) f q e = absurd cc
-then-ok (Ok a) f q e = let b = behind-ok a (f a.1) q e in (a, b.0, refl, b.1, b.2)
-
-there-ok : {A : Type 0} (o : Option A) (c : Cause) (f : A → Answer) (q : WordTree × BridgeTree) → if_there o c f ≡ Ok q → (x : A) × (o ≡ Some x) × (f x ≡ Ok q)
-there-ok None c f q e = absurd cc
-there-ok (Some x) c f q e = (x, refl, e)
-
-around-ok : (p : WordTree → PrimitiveTree) (b : BridgeTree → BridgeTree) (r : Answer) (q : WordTree × BridgeTree) → around p b r ≡ Ok q → (a : WordTree × BridgeTree) × (r ≡ Ok a) × ((more_primitives (p a.0) no_primitives, b a.1) ≡ q)
-around-ok p b (Ok a) q e = (a, refl, cc)
-around-ok p b (Err why) q e = absurd cc
-
-test-ok : (t : Bool) (r : Answer) (why : WhyNot) (q : WordTree × BridgeTree) → cond t r (Err why) ≡ Ok q → (t ≡ true) × (r ≡ Ok q)
-test-ok true r why q e = (refl, e)
-test-ok false r why q e = absurd cc
-
--- ---- words of one primitive, and joined words
-
-inner-after : (r : Result DocTree Cause) → inner (after r (λ v. Ok v)) ≡ r
-inner-after (Ok v) = refl
-inner-after (Err c) = refl
-
-only-acts : (t : TyTree) (p : PrimitiveTree) (u : DocTree) → inner (act t (more_primitives p no_primitives) u) ≡ act_primitive t p u
-only-acts t p u = inner-after (act_primitive t p u)
-
-leads-only : (t : TyTree) (p : PrimitiveTree) (b : BridgeTree) (x u : DocTree) → LeadsTo b t x (act_primitive t p u) → LeadsTo b t x (inner (act t (more_primitives p no_primitives) u))
-leads-only t p b x u h = subst (λ r. LeadsTo b t x r) (sym (only-acts t p u)) h
-
-inner-later : (n : ℕ) (r : Result DocTree Why) → inner (later n r) ≡ inner r
-inner-later n (Ok v) = refl
-inner-later n (Err why) = refl
-
--- a failure is that of a sum, and the bridge behind it begins somewhere
-leads-fails : (b c : BridgeTree) (t s : TyTree) (x y : DocTree) (cause : Cause) → (BeginsAt b t x → BeginsAt c s y) → LeadsTo b t x (Err cause) → LeadsTo c s y (Err cause)
-leads-fails b c t s x y Overflow f h = f h
-leads-fails b c t s x y _ f h = absurd h
-
-pub begins : (b : BridgeTree) (t : TyTree) (x : DocTree) (r : Result DocTree Cause) → LeadsTo b t x r → BeginsAt b t x
-begins b t x (Ok u) h = (u, h)
-begins b t x (Err Overflow) h = h
-begins b t x (Err _) h = absurd h
-
--- ---- each primitive; a is what it is carried to
-
-abbrev pub Carries : PrimitiveTree → Type 0
-Carries p = (t : TyTree) (b : BridgeTree) (s u x : DocTree) (q : WordTree × BridgeTree) → Spans b t s u → act_primitive t p s ≡ Ok x → carry_primitive t b p ≡ Ok q → LeadsTo q.1 t x (inner (act t q.0 u))
+-- ---- each primitive
 
 -- a primitive passes as it is, and does the same to both documents
 passes-same : (t : TyTree) (p : PrimitiveTree) (u x : DocTree) (q : WordTree × BridgeTree) → act_primitive t p u ≡ Ok x → passes p same ≡ Ok q → LeadsTo q.1 t x (inner (act t q.0 u))
@@ -113,6 +63,7 @@ set-carries a t (cells rs) s u x q h e k = set-passes a t s u x q e k
 set-carries a t (parts bs) s u x q h e k = absurd cc
 set-carries a t (arm c b) s u x q h e k = absurd cc
 set-carries a t (away c d) s u x q h e k = absurd cc
+set-carries a t (linked ls m bs) s u x q h e k = absurd cc
 
 sum-leads : (z : ℤ) (n : ℤ) (m : ℤ) (x : DocTree) (fits : Bool) → has (ty_int z) x ≡ true → LeadsTo other (ty_int z) x (cond fits (Ok (int (m +ℤ n))) (Err Overflow))
 sum-leads z n m x true h = record { kind_is = refl; near_has = h; far_has = refl }
@@ -137,6 +88,7 @@ add-carries n t (cells rs) s u x q h e k = absurd cc
 add-carries n t (parts bs) s u x q h e k = absurd cc
 add-carries n t (arm c b) s u x q h e k = absurd cc
 add-carries n t (away c d) s u x q h e k = absurd cc
+add-carries n t (linked ls m bs) s u x q h e k = absurd cc
 
 -- ---- texts
 
@@ -180,11 +132,9 @@ module _ (near_splices : NearSplices) where
   splice-carries i k x t (parts bs) s u v q h e g = absurd cc
   splice-carries i k x t (arm c b) s u v q h e g = absurd cc
   splice-carries i k x t (away c d) s u v q h e g = absurd cc
+  splice-carries i k x t (linked ls m bs) s u v q h e g = absurd cc
 
   -- ---- records
-
-  abbrev pub IsCarried : WordTree → Type 0
-  IsCarried w = (t : TyTree) (b : BridgeTree) (s u v : DocTree) (q : WordTree × BridgeTree) → Spans b t s u → act t w s ≡ Ok v → carry t b w ≡ Ok q → LeadsTo q.1 t v (inner (act t q.0 u))
 
   -- the field of the far record, by what the inner word made of its content
   field-leads : (bs : BridgeTrees) (fs : FieldTrees) (ds es : DocTrees) (f : List ℕ) (l : ℕ × TyTree) (c : BridgeTree) (y : DocTree) (r : Result DocTree Why) → SpanFields bs fs ds es → lookup_field fs f ≡ Some l → LeadsTo c l.1 y (inner r)
@@ -225,6 +175,7 @@ module _ (near_splices : NearSplices) where
   at-carries f w k t (cells rs) s u x q h e g = absurd cc
   at-carries f w k t (arm c b) s u x q h e g = absurd cc
   at-carries f w k t (away c d) s u x q h e g = absurd cc
+  at-carries f w k t (linked ls m bs) s u x q h e g = absurd cc
 
   -- ---- alternatives
 
@@ -279,6 +230,7 @@ module _ (near_splices : NearSplices) where
   stay-carries a w k t lost s u x q h e g = absurd cc
   stay-carries a w k t (cells rs) s u x q h e g = absurd cc
   stay-carries a w k t (parts bs) s u x q h e g = absurd cc
+  stay-carries a w k t (linked ls m bs) s u x q h e g = absurd cc
 
   -- a switch from another tag to the same one makes the same
   switch-from : (fs : FieldTrees) (a d new n c : List ℕ) (w : WordTree) (s u x : DocTree) → n ≡ new → act_primitive (ty_alt fs) (switch a c w) (alt d s) ≡ Ok x → act_primitive (ty_alt fs) (switch new c w) (alt n u) ≡ Ok x
@@ -312,20 +264,23 @@ module _ (near_splices : NearSplices) where
   switch-carries a c w t lost s u x q h e g = absurd cc
   switch-carries a c w t (cells rs) s u x q h e g = absurd cc
   switch-carries a c w t (parts bs) s u x q h e g = absurd cc
+  switch-carries a c w t (linked ls m bs) s u x q h e g = absurd cc
 
   -- ---- containers
 
-  modify-carries : (p : PlaceOf) (w : WordTree) → Carries (modify p w)
-  modify-carries p w t same s u x q h e g = same-carries (modify p w) t s u x q h e g
-  modify-carries p w t other s u x q h e g = absurd cc
-  modify-carries p w t lost s u x q h e g = absurd cc
-  modify-carries p w t (cells rs) s u x q h e g = absurd cc
-  modify-carries p w t (parts bs) s u x q h e g = absurd cc
-  modify-carries p w t (arm c b) s u x q h e g = absurd cc
-  modify-carries p w t (away c d) s u x q h e g = absurd cc
+  modify-carries : (p : PlaceOf) (w : WordTree) → IsCarried w → Carries (modify p w)
+  modify-carries p w k t same s u x q h e g = same-carries (modify p w) t s u x q h e g
+  modify-carries p w k t (linked ls m bs) s u x q h e g = item-carries p w k t ls m bs s u x q h e g
+  modify-carries p w k t other s u x q h e g = absurd cc
+  modify-carries p w k t lost s u x q h e g = absurd cc
+  modify-carries p w k t (cells rs) s u x q h e g = absurd cc
+  modify-carries p w k t (parts bs) s u x q h e g = absurd cc
+  modify-carries p w k t (arm c b) s u x q h e g = absurd cc
+  modify-carries p w k t (away c d) s u x q h e g = absurd cc
 
   shape-carries : (a : ShapeEdit) → Carries (shape a)
   shape-carries a t same s u x q h e g = same-carries (shape a) t s u x q h e g
+  shape-carries a t (linked ls m bs) s u x q h e g = list-carries a t ls m bs s u x q h e g
   shape-carries a t other s u x q h e g = absurd cc
   shape-carries a t lost s u x q h e g = absurd cc
   shape-carries a t (cells rs) s u x q h e g = absurd cc
@@ -365,5 +320,5 @@ module _ (near_splices : NearSplices) where
     primitive-carries (at f w) t b s u x q h e g = at-carries f w (λ t' b' s' u' v' q' i j k. word-carries w t' b' s' u' v' q' i j k) t b s u x q h e g
     primitive-carries (stay a w) t b s u x q h e g = stay-carries a w (λ t' b' s' u' v' q' i j k. word-carries w t' b' s' u' v' q' i j k) t b s u x q h e g
     primitive-carries (switch a c w) t b s u x q h e g = switch-carries a c w t b s u x q h e g
-    primitive-carries (modify p w) t b s u x q h e g = modify-carries p w t b s u x q h e g
+    primitive-carries (modify p w) t b s u x q h e g = modify-carries p w (λ t' b' s' u' v' q' i j k. word-carries w t' b' s' u' v' q' i j k) t b s u x q h e g
     primitive-carries (shape a) t b s u x q h e g = shape-carries a t b s u x q h e g

@@ -2,6 +2,10 @@ pub mod BridgeItems
 pub mod BridgeLists
 pub mod BridgeSpans
 pub mod CarriedActs
+pub mod CarriedParts
+pub mod Items
+pub mod ListCarries
+pub mod ListSpans
 pub mod OnlyGone
 pub mod TextLaws
 pub mod Walks

@@ -1,27 +1,41 @@
 -- A word that acts on the near document is refused only because what it changes is gone.
-use Rattle.std.proofs.Common.{◌≡◌, ℕ, Bool, true, false, List, Option, Some, Ok, Err, refl, sym, ap, ◌∙◌, subst, ◌⊎◌, inl, inr}
-use Rattle.std.specs.Prelude.{bytes_eq, cond}
+use Rattle.std.proofs.Common.{◌≡◌, ℕ, Bool, true, false, List, length, Option, None, Some, Ok, Err, refl, sym, ap, ◌∙◌, subst, ◌⊎◌, inl, inr}
+use Rattle.std.specs.Prelude.{bytes_eq, cond, nat_lt}
 use Rattle.std.specs.Str.{is_utf8}
 use Rattle.bridge_texts.specs.declared.run.Run.{Run}
 use Rattle.bridge_texts.specs.Runs.{carried, near_spliced, shortest}
 use Rattle.texts.specs.Characters.{character_count}
-use Rattle.doc_values.specs.Documents.{DocTree, text, rec, alt}
+use Rattle.doc_values.specs.Documents.{DocTree, text, rec, alt, hold, DocTrees, doc_list}
 use Rattle.doc_values.specs.Types.{TyTree, ty_int, ty_text, ty_rec, ty_alt, ty_list, ty_keyed, ty_ordered, FieldTrees}
 use Rattle.doc_values.specs.Typing.{lookup_field, lookup_type}
 use Rattle.doc_values.specs.Initial.{initial}
+use Rattle.hold_shapes.specs.declared.shape.Shape.{Shape}
+use Rattle.hold_shapes.specs.declared.origins.Origin.{Origin}
+use Rattle.hold_shapes.specs.declared.edit.ShapeEdit.{ShapeEdit}
+use Rattle.hold_shapes.specs.Plans.{Planned, plan, plan_list}
+use Rattle.hold_shapes.specs.Shapes.{place_of}
+use Rattle.bridge_links.specs.declared.link.Link.{Link}
+use Rattle.bridge_links.specs.Links.{link_at}
+use Rattle.bridge_lists.specs.Carried.{far_place}
+use Rattle.bridge_lists.specs.Carried as Lists
+use Rattle.bridge_lists.proofs.FarOrders.{linked-place}
 use Rattle.hold_shapes.specs.declared.edit.Place.{Place as PlaceOf}
 use Rattle.hold_shapes.specs.declared.edit.Place.TheVariants.{Index, Key, Node}
 use Rattle.edit_module.specs.declared.fault.Cause.TheVariants.{Place, Tag}
 use Rattle.edit_module.specs.Words.{PrimitiveTree, set, add, splice, at, stay, switch, modify, shape, WordTree, no_primitives, more_primitives}
 use Rattle.edit_module.specs.Action.{act, act_primitive, inner, map_ok, if_present, put_result_at, doc_at}
 use Rattle.edit_module.proofs.ActionKeepsTypes.{after_ok, present_ok, if_ok, map_ok_ok, inner_ok, in_ok}
-use Rattle.bridge_core.specs.Bridges.{BridgeTree, same, other, lost, cells, parts, arm, away, BridgeTrees, bridge_at, put_bridge_at}
-use Rattle.bridge_core.specs.Carried.{WhyNot, gone, fails, Answer, if_there, around, carry_other, carry_lost, carry_text, splices, carry_at, carry_stay, carry_left, carry_switch, in_front, then_carry, carry, carry_primitive}
-use Rattle.bridge_core.specs.Spans.{is_plain, is_row, AtType, Spans}
+use Rattle.bridge_core.specs.Bridges.{BridgeTree, same, other, lost, cells, parts, arm, away, linked, BridgeTrees, bridge_at, put_bridge_at}
+use Rattle.bridge_core.specs.Carried.{WhyNot, gone, fails, Answer, if_there, around, carry_other, carry_lost, carry_text, splices, carry_at, carry_stay, carry_left, carry_switch, in_front, then_carry, carry, carry_primitive, at_far, carry_index, carry_item, carry_planned, carry_shape}
+use Rattle.bridge_core.specs.Spans.{is_plain, is_row, AtType, AreLinked, Spans, SpanItems}
 use Rattle.bridge_core.specs.Laws.{BeginsAt}
 use Rattle.bridge_core.proofs.TextLaws.{NearSplices}
 use Rattle.bridge_core.proofs.BridgeLists.{field-spans}
-use Rattle.bridge_core.proofs.CarriedActs.{begins, primitive-carries}
+use Rattle.bridge_core.proofs.CarriedParts.{begins}
+use Rattle.bridge_core.proofs.CarriedActs.{primitive-carries}
+use Rattle.bridge_core.proofs.Items.{links-as-many, item-spans}
+use Rattle.bridge_core.proofs.ListSpans.{reshaped-ok}
+use Rattle.bridge_core.proofs.ListCarries.{index-place}
 
 -- ---- answers that are refusals
 
@@ -172,7 +186,45 @@ away-switch a c w (ty_alt fs) old new (alt d s) (alt n u) x why h e g = named-pa
 away-switch a c w (ty_alt fs) old new (alt d s) _ x why h e g = h
 away-switch a c w _ old new _ _ x why h e g = cc
 
--- ---- what acts on records, and what on alternatives
+-- ---- lists
+
+far-err : (o : Option ℕ) (f : ℕ → Answer) (why : WhyNot) → at_far o f ≡ Err why → ((y : ℕ) → o ≡ Some y → f y ≡ Err why → why ≡ gone) → why ≡ gone
+far-err None f why h k = cc
+far-err (Some y) f why h k = k y refl h
+
+index-refuses : (i : ℕ) (w : WordTree) → IsRefused w → (t : TyTree) (ls : List Link) (m : ℕ) (bs : BridgeTrees) (z y : Shape) (ds es : DocTrees) (x : DocTree) (why : WhyNot) → AreLinked ls m z y ds es (SpanItems bs ls t ds es)
+    → act_primitive (ty_list t) (modify (Index i) w) (hold z ds) ≡ Ok x → carry_index t ls m bs i (λ v b. carry v b w) ≡ Err why → why ≡ gone
+index-refuses i w k t ls m bs z y ds es x why h e g =
+    let p = present_ok (place_of z (Index i)) Place (λ j. map_ok (hold z) (put_result_at ds j (act t w (doc_at ds j)))) x e in
+    let n = index-place (length (doc_list ds)) i p.0 (ap (λ s. place_of s (Index i)) (sym h.near_is) ∙ p.1) in
+    let there : map_ok (hold z) (put_result_at ds i (act t w (doc_at ds i))) ≡ Ok x = subst (λ j. map_ok (hold z) (put_result_at ds j (act t w (doc_at ds j))) ≡ Ok x) n.1 p.2 in
+    let a = map_ok_ok (hold z) (put_result_at ds i (act t w (doc_at ds i))) x there in
+    let c = in_ok ds i (act t w (doc_at ds i)) a.0 a.1 in
+    let within : nat_lt i (length ls) ≡ true = ap (λ k. nat_lt i k) (links-as-many bs ls t ds es h.items) ∙ n.0 in
+    let go = λ (j : ℕ). around (λ u. modify (Index j) u) (λ b. linked ls m (put_bridge_at bs i b)) (carry t (bridge_at bs i) w) in
+    let first : at_far (far_place m (link_at ls i)) go ≡ Err why = subst (λ test. cond {A = Answer} test (at_far (far_place m (link_at ls i)) go) (Err (fails Place)) ≡ Err why) within g in
+    far-err (far_place m (link_at ls i)) go why first
+    (λ j f r. k t (bridge_at bs i) (doc_at ds i) (doc_at es j) c.0 why (item-spans bs ls t ds es i j h.items (linked-place m j i ls f)) c.1
+    (around-err (λ u. modify (Index j) u) (λ b. linked ls m (put_bridge_at bs i b)) (carry t (bridge_at bs i) w) why r))
+
+item-refuses : (p : PlaceOf) (w : WordTree) → IsRefused w → (t : TyTree) (ls : List Link) (m : ℕ) (bs : BridgeTrees) (s u x : DocTree) (why : WhyNot) → Spans (linked ls m bs) t s u → act_primitive t (modify p w) s ≡ Ok x
+    → carry_item t ls m bs p (λ v b. carry v b w) ≡ Err why → why ≡ gone
+item-refuses (Index i) w k (ty_list t) ls m bs (hold z ds) (hold y es) x why h e g = index-refuses i w k t ls m bs z y ds es x why h e g
+item-refuses _ w k (ty_list t) ls m bs (hold z ds) (hold y es) x why h e g = absurd cc
+item-refuses p w k _ ls m bs _ _ x why h e g = absurd h
+
+planned-err : (p : Shape × List Origin) (o : Option Lists.Carried) (bs : BridgeTrees) (why : WhyNot) → carry_planned (Ok p) o bs ≡ Err why → why ≡ gone
+planned-err p None bs why h = cc
+planned-err p (Some c) bs why h = absurd cc
+
+list-refuses : (e : ShapeEdit) (t : TyTree) (ls : List Link) (m : ℕ) (bs : BridgeTrees) (s u x : DocTree) (why : WhyNot) → Spans (linked ls m bs) t s u → act_primitive t (shape e) s ≡ Ok x → carry_shape ls m bs e ≡ Err why → why ≡ gone
+list-refuses e (ty_list t) ls m bs (hold z ds) (hold y es) x why h k g =
+    let r = reshaped-ok (plan z e) ds (initial t) x k in
+    let planned : plan_list (length ls) e ≡ Ok r.0 = ap (λ n. plan_list n e) (links-as-many bs ls t ds es h.items) ∙ (ap (λ s. plan s e) (sym h.near_is) ∙ r.1) in
+    planned-err r.0 (Lists.carried e m ls) bs why (subst (λ (o : Planned). carry_planned o (Lists.carried e m ls) bs ≡ Err why) planned g)
+list-refuses e _ ls m bs _ _ x why h k g = absurd h
+
+-- ---- what acts on records, on alternatives and on lists
 
 abbrev is_at : PrimitiveTree → Bool
 is_at (at f w) = true
@@ -182,6 +234,22 @@ abbrev is_tagged : PrimitiveTree → Bool
 is_tagged (stay a w) = true
 is_tagged (switch a c w) = true
 is_tagged _ = false
+
+abbrev is_held : PrimitiveTree → Bool
+is_held (modify q w) = true
+is_held (shape a) = true
+is_held _ = false
+
+lists-only : (p : PrimitiveTree) (t : TyTree) (ls : List Link) (m : ℕ) (bs : BridgeTrees) (s u x : DocTree) → is_held p ≡ false → Spans (linked ls m bs) t s u → act_primitive t p s ≡ Ok x → ⊥
+lists-only (modify q w) t ls m bs s u x n h e = cc
+lists-only (shape a) t ls m bs s u x n h e = cc
+lists-only (set a) (ty_list t) ls m bs s u x n h e = cc
+lists-only (add k) (ty_list t) ls m bs s u x n h e = cc
+lists-only (splice i k y) (ty_list t) ls m bs s u x n h e = cc
+lists-only (at f w) (ty_list t) ls m bs s u x n h e = cc
+lists-only (stay a w) (ty_list t) ls m bs s u x n h e = cc
+lists-only (switch a c w) (ty_list t) ls m bs s u x n h e = cc
+lists-only _ _ ls m bs s u x n h e = h
 
 record-only : (p : PrimitiveTree) (t : TyTree) (bs : BridgeTrees) (s u x : DocTree) → is_at p ≡ false → Spans (parts bs) t s u → act_primitive t p s ≡ Ok x → ⊥
 record-only (at f w) t bs s u x n h e = cc
@@ -219,6 +287,7 @@ record Inner (p : PrimitiveTree) (t : TyTree) (s u : DocTree) (why : WhyNot) : T
   in_parts : (bs : BridgeTrees) → Spans (parts bs) t s u → carry_primitive t (parts bs) p ≡ Err why → why ≡ gone
   in_arm : (tag : List ℕ) (c : BridgeTree) → Spans (arm tag c) t s u → carry_primitive t (arm tag c) p ≡ Err why → why ≡ gone
   in_away : (old new : List ℕ) → Spans (away old new) t s u → carry_primitive t (away old new) p ≡ Err why → why ≡ gone
+  in_list : (ls : List Link) (m : ℕ) (bs : BridgeTrees) → Spans (linked ls m bs) t s u → carry_primitive t (linked ls m bs) p ≡ Err why → why ≡ gone
 
 by-bridge : (p : PrimitiveTree) (t : TyTree) (b : BridgeTree) (s u x : DocTree) (why : WhyNot) → Inner p t s u why → Spans b t s u → act_primitive t p s ≡ Ok x → carry_primitive t b p ≡ Err why → why ≡ gone
 by-bridge p t same s u x why i h e g = absurd cc
@@ -229,15 +298,17 @@ by-bridge p t (cells rs) _ u x why i h e g = absurd h
 by-bridge p t (parts bs) s u x why i h e g = i.in_parts bs h g
 by-bridge p t (arm tag c) s u x why i h e g = i.in_arm tag c h g
 by-bridge p t (away old new) s u x why i h e g = i.in_away old new h g
+by-bridge p t (linked ls m bs) s u x why i h e g = i.in_list ls m bs h g
 
 -- a primitive of a type without parts
-leaf-refuses : (p : PrimitiveTree) → is_at p ≡ false → is_tagged p ≡ false → Refuses p
-leaf-refuses p n m t b s u x why h e g =
+leaf-refuses : (p : PrimitiveTree) → is_at p ≡ false → is_tagged p ≡ false → is_held p ≡ false → Refuses p
+leaf-refuses p n m o t b s u x why h e g =
     by-bridge p t b s u x why (
     record {
       in_parts = λ bs k f. absurd (record-only p t bs s u x n k e);
       in_arm = λ tag c k f. absurd (arm-only p t tag c s u x m k e);
       in_away = λ old new k f. absurd (away-only p t old new s u x m k e);
+      in_list = λ ls size bs k f. absurd (lists-only p t ls size bs s u x o k e);
     }
     ) h e g
 
@@ -257,17 +328,16 @@ module _ (near_splices : NearSplices) where
         ]
 
     pub primitive-refuses : (p : PrimitiveTree) → Refuses p
-    primitive-refuses (set a) t b s u x why h e g = leaf-refuses (set a) refl refl t b s u x why h e g
-    primitive-refuses (add n) t b s u x why h e g = leaf-refuses (add n) refl refl t b s u x why h e g
-    primitive-refuses (splice i k y) t b s u x why h e g = leaf-refuses (splice i k y) refl refl t b s u x why h e g
-    primitive-refuses (modify p w) t b s u x why h e g = leaf-refuses (modify p w) refl refl t b s u x why h e g
-    primitive-refuses (shape a) t b s u x why h e g = leaf-refuses (shape a) refl refl t b s u x why h e g
+    primitive-refuses (set a) t b s u x why h e g = leaf-refuses (set a) refl refl refl t b s u x why h e g
+    primitive-refuses (add n) t b s u x why h e g = leaf-refuses (add n) refl refl refl t b s u x why h e g
+    primitive-refuses (splice i k y) t b s u x why h e g = leaf-refuses (splice i k y) refl refl refl t b s u x why h e g
     primitive-refuses (at f w) t b s u x why h e g =
         by-bridge (at f w) t b s u x why (
         record {
           in_parts = λ bs k i. at-refuses f w (λ t' b' s' u' v' y' j l m. word-refuses w t' b' s' u' v' y' j l m) t bs s u x why k e i;
           in_arm = λ tag c k i. absurd (arm-only (at f w) t tag c s u x refl k e);
           in_away = λ old new k i. absurd (away-only (at f w) t old new s u x refl k e);
+          in_list = λ ls m bs k i. absurd (lists-only (at f w) t ls m bs s u x refl k e);
         }
         ) h e g
     primitive-refuses (stay a w) t b s u x why h e g =
@@ -276,6 +346,7 @@ module _ (near_splices : NearSplices) where
           in_parts = λ bs k i. absurd (record-only (stay a w) t bs s u x refl k e);
           in_arm = λ tag c k i. stay-refuses a w (λ t' b' s' u' v' y' j l m. word-refuses w t' b' s' u' v' y' j l m) t tag c s u x why k e i;
           in_away = λ old new k i. left-refuses a w t old new s u x why k e i;
+          in_list = λ ls m bs k i. absurd (lists-only (stay a w) t ls m bs s u x refl k e);
         }
         ) h e g
     primitive-refuses (switch a c w) t b s u x why h e g =
@@ -284,5 +355,24 @@ module _ (near_splices : NearSplices) where
           in_parts = λ bs k i. absurd (record-only (switch a c w) t bs s u x refl k e);
           in_arm = λ tag d k i. absurd (arm-switch a c w t tag d s u x why k e i);
           in_away = λ old new k i. absurd (away-switch a c w t old new s u x why k e i);
+          in_list = λ ls m bs k i. absurd (lists-only (switch a c w) t ls m bs s u x refl k e);
+        }
+        ) h e g
+    primitive-refuses (modify p w) t b s u x why h e g =
+        by-bridge (modify p w) t b s u x why (
+        record {
+          in_parts = λ bs k i. absurd (record-only (modify p w) t bs s u x refl k e);
+          in_arm = λ tag c k i. absurd (arm-only (modify p w) t tag c s u x refl k e);
+          in_away = λ old new k i. absurd (away-only (modify p w) t old new s u x refl k e);
+          in_list = λ ls m bs k i. item-refuses p w (λ t' b' s' u' v' y' j l n. word-refuses w t' b' s' u' v' y' j l n) t ls m bs s u x why k e i;
+        }
+        ) h e g
+    primitive-refuses (shape a) t b s u x why h e g =
+        by-bridge (shape a) t b s u x why (
+        record {
+          in_parts = λ bs k i. absurd (record-only (shape a) t bs s u x refl k e);
+          in_arm = λ tag c k i. absurd (arm-only (shape a) t tag c s u x refl k e);
+          in_away = λ old new k i. absurd (away-only (shape a) t old new s u x refl k e);
+          in_list = λ ls m bs k i. list-refuses a t ls m bs s u x why k e i;
         }
         ) h e g

@@ -1,6 +1,8 @@
 -- The walks over a word, and what the calls promise.
 use Rattle.std.proofs.Common.{◌≡◌, ℕ, zero, suc, ◌+◌, ◌<◌, ◌≤◌, true, List, [], ◌∷◌, length, map, drop, get_or, Result, Ok, Err, refl, sym, ap, subst, ◌∙◌, arith, rules}
-use Rattle.std.specs.Prelude.{IfOk, IfErr, MatchResult}
+use Rattle.std.specs.Prelude.{IfOk, IfErr, IsOk, MatchResult, Option, None}
+use Rattle.hold_shapes.specs.Plans.{Planned}
+use Rattle.bridge_lists.specs.Carried as Lists
 use Rattle.std.specs.Str.{is_utf8, IsUtf8}
 use Rattle.std.proofs.lemmas.Str.{is_utf8-from_IsUtf8}
 use Rattle.std.proofs.lemmas.List.{drop_all}
@@ -14,16 +16,17 @@ use Rattle.edit_module.specs.Words.{PrimitiveTree, stay, WordTree, no_primitives
 use Rattle.edit_module.specs.Depths.{primitive_depth, word_depth}
 use Rattle.edit_module.specs.Views.{primitive_tree, word_tree}
 use Rattle.edit_module.specs.Action.{act, act_primitive, inner}
+use Rattle.edit_module.proofs.ActionKeepsTypes.{list-held}
 use Rattle.edit_module.proofs.Words.{joined_assoc, left_primitives}
 use Rattle.edit_module.proofs.JoinedWords.{joined_nothing}
 use Rattle.edit_module.proofs.WordSteps.{later-none, later-more}
-use Rattle.bridge_core.specs.Bridges.{BridgeTree, same, arm, bridge_tree}
+use Rattle.bridge_core.specs.Bridges.{BridgeTree, BridgeTrees, same, arm, bridge_tree}
 use Rattle.bridge_core.specs.Bridged.{led_on, bridge, bridge_primitive}
-use Rattle.bridge_core.specs.Carried.{gone, fails, Answer, carry_stay, in_front, then_carry, carry, carry_primitive}
+use Rattle.bridge_core.specs.Carried.{gone, fails, Answer, carry_stay, carry_planned, in_front, then_carry, carry, carry_primitive}
 use Rattle.bridge_core.specs.Spans.{Spans}
 use Rattle.bridge_core.specs.Laws.{BridgeSpans, CarriedActs, OnlyGoneIsRefused, BeginsAt, LeadsTo, SpansValue}
 use Rattle.bridge_core.specs.Refusals.{carried_tree, IsNotCarried, IsGone}
-use Rattle.bridge_core.specs.declared.carrying.CarriedWord.{CarriedWord}
+use Rattle.bridge_core.specs.declared.carried_word.CarriedWord.{CarriedWord}
 use Rattle.bridge_core.specs.declared.fault.CarryFault.{CarryFault}
 use Rattle.bridge_core.specs.declared.fault.CarryFault.TheVariants.{Gone, NoApply, NoMemory}
 
@@ -126,3 +129,13 @@ pub known-text : (x : List ℕ) → IsUtf8 x → is_utf8 x ≡ true
 known-text x h = is_utf8-from_IsUtf8 x h
 
 pub ruleset text_rules = (known-text)
+
+-- ---- containers
+
+pub ruleset place_rules = (list-held)
+
+pub planned-gone : (r : Planned) (o : Option Lists.Carried) (bs : BridgeTrees) → IsOk r → o ≡ None → carry_planned r o bs ≡ Err gone
+planned-gone (Ok p) o bs h e = ap (λ (q : Option Lists.Carried). carry_planned (Ok p) q bs) e
+planned-gone (Err cause) o bs h e = absurd cc
+
+pub ruleset planned_rules = (planned-gone)

@@ -1,19 +1,27 @@
 -- The bridge after a word has acted on the far document.
 -- Read it from the end: `bridge` goes through a word, and `bridge_primitive` has a line for each primitive that acts.
-use Rattle.std.specs.Prelude.{ℕ, Bool, List, [], ◌&&◌, if◌then◌else◌, Option, None, Some, Result, Ok, Err}
+use Rattle.std.specs.Prelude.{ℕ, Bool, List, [], ◌&&◌, if◌then◌else◌, length, Option, None, Some, Result, Ok, Err}
 use Rattle.std.specs.Str.{is_utf8}
 use Rattle.texts.specs.Characters.{character_count}
+use Rattle.hold_shapes.specs.declared.edit.Place.TheVariants.{Index}
+use Rattle.hold_shapes.specs.declared.edit.ShapeEdit.{ShapeEdit}
+use Rattle.hold_shapes.specs.Plans.{Planned, plan_list}
+use Rattle.hold_shapes.specs.Shapes.{place_of}
+use Rattle.bridge_links.specs.declared.link.Link.{Link}
+use Rattle.bridge_links.specs.Links.{came, same_places}
+use Rattle.bridge_links.specs.Links as Links
+use Rattle.bridge_lists.specs.Carried as Lists
 use Rattle.bridge_texts.specs.declared.run.Run.{Run}
 use Rattle.bridge_texts.specs.Runs.{far_spliced, shortest}
-use Rattle.doc_values.specs.Documents.{DocTree, text, rec, alt, DocTrees}
-use Rattle.doc_values.specs.Types.{TyTree, ty_text, ty_rec, ty_alt}
+use Rattle.doc_values.specs.Documents.{DocTree, text, rec, alt, hold, DocTrees, doc_list}
+use Rattle.doc_values.specs.Types.{TyTree, ty_text, ty_rec, ty_alt, ty_list}
 use Rattle.doc_values.specs.Typing.{lookup_field, lookup_type}
 use Rattle.edit_module.specs.declared.fault.Cause.{Cause}
 use Rattle.edit_module.specs.Words.{PrimitiveTree, set, add, splice, at, stay, switch, modify, shape, WordTree}
 use Rattle.edit_module.specs.Words.{no_primitives, more_primitives}
 use Rattle.edit_module.specs.Action.{act_primitive, doc_at}
-use Rattle.bridge_core.specs.Bridges.{BridgeTree, same, other, lost, cells, parts, arm, away, BridgeTrees, no_bridges}
-use Rattle.bridge_core.specs.Bridges.{bridge_at, put_bridge_at, same_each}
+use Rattle.bridge_core.specs.Bridges.{BridgeTree, same, other, lost, cells, parts, arm, away, linked, BridgeTrees}
+use Rattle.bridge_core.specs.Bridges.{no_bridges, bridge_at, put_bridge_at, same_each}
 
 -- what is done with what was looked up; the bridge stays where nothing was found
 abbrev pub for_found : {A : Type 0} → BridgeTree → Option A → (A → BridgeTree) → BridgeTree
@@ -66,6 +74,48 @@ abbrev pub bridge_switch : BridgeTree → List ℕ → List ℕ → BridgeTree
 bridge_switch (away old new) a c = away old c
 bridge_switch _ a c = away a c
 
+-- ---- lists
+
+-- the bridge of two lists, where each item of the near one has a link
+abbrev pub linked_of : BridgeTree → DocTrees → BridgeTree
+linked_of same ds = linked (same_places (length (doc_list ds))) (length (doc_list ds)) (same_each ds)
+linked_of b ds = b
+
+-- the bridge of an item of the near list, if there is one, and another one there
+abbrev pub inner_at : BridgeTrees → Option ℕ → BridgeTree
+inner_at bs None = same
+inner_at bs (Some x) = bridge_at bs x
+
+abbrev pub put_inner_at : BridgeTrees → Option ℕ → BridgeTree → BridgeTrees
+put_inner_at bs None b = bs
+put_inner_at bs (Some x) b = put_bridge_at bs x b
+
+-- the item of the near list that is at the place y of the far one
+abbrev pub near_place : List Link → ℕ → Option ℕ
+near_place ls y = Links.place_of (came 0 y ls)
+
+-- the bridge of the item at the place y of the far list, and another one there
+abbrev pub inner_of : BridgeTree → ℕ → BridgeTree
+inner_of (linked ls m bs) y = inner_at bs (near_place ls y)
+inner_of b y = same
+
+abbrev pub with_inner : BridgeTree → ℕ → BridgeTree → BridgeTree
+with_inner (linked ls m bs) y c = linked ls m (put_inner_at bs (near_place ls y) c)
+with_inner b y c = b
+
+-- that bridge is led on by `inner`
+abbrev pub bridge_item : BridgeTree → ℕ → (BridgeTree → BridgeTree) → BridgeTree
+bridge_item b y inner = with_inner b y (inner (inner_of b y))
+
+-- the links after an edit of the far list; they stay where the edit has no plan
+abbrev pub links_after : Planned → ShapeEdit → List Link → ℕ → BridgeTrees → BridgeTree
+links_after (Ok p) e ls m bs = linked (Lists.led_on e (ls, m)).0 (Lists.led_on e (ls, m)).1 bs
+links_after (Err cause) e ls m bs = linked ls m bs
+
+abbrev pub bridge_shape : BridgeTree → ShapeEdit → BridgeTree
+bridge_shape (linked ls m bs) e = links_after (plan_list m e) e ls m bs
+bridge_shape b e = b
+
 -- ---- all primitives and words
 
 -- the bridge of a word's rest, where its first primitive acts
@@ -88,6 +138,9 @@ abbrev mutual
   bridge_primitive (ty_alt fs) (stay a w) (alt tag v) b =
       for_found b (lookup_type fs tag) (λ t. bridge_stay b tag (bridge t w v (arm_of b)))
   bridge_primitive t (switch a c w) v b = bridge_switch b a c
+  bridge_primitive (ty_list t) (modify (Index i) w) (hold s ds) b =
+      for_found b (place_of s (Index i)) (λ y. bridge_item (linked_of b ds) y (λ c. bridge t w (doc_at ds y) c))
+  bridge_primitive (ty_list t) (shape e) (hold s ds) b = bridge_shape (linked_of b ds) e
   bridge_primitive t (modify p w) v b = lost
   bridge_primitive t (shape e) v b = lost
   bridge_primitive _ _ _ b = b

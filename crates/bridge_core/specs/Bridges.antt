@@ -1,7 +1,10 @@
 -- Bridges as plain trees: how a document, the far one, differs from another, the near one.
 -- In order: `BridgeTree`, lists of bridges, and `bridge_tree`, the tree that contracts see a bridge as.
-use Rattle.std.specs.Prelude.{ℕ, List, [], ◌∷◌, slice_set, slice_index_or}
+use Rattle.std.specs.Prelude.{ℕ, List, [], ◌∷◌, map, slice_set, slice_index_or}
+use Rattle.hold_shapes.specs.declared.origins.Origin.{Origin}
+use Rattle.hold_shapes.specs.Gather.{content_at}
 use Rattle.bridge_texts.specs.declared.run.Run.{Run}
+use Rattle.bridge_links.specs.declared.link.Link.{Link}
 use Rattle.doc_values.specs.Documents.{DocTrees, no_docs, more_docs}
 use Rattle.bridge_core.specs.declared.bridge.Bridge.{Bridge, fold-Bridge}
 use Rattle.bridge_core.specs.declared.bridge.Bridges.{Bridges, fold-Bridges}
@@ -9,7 +12,8 @@ use Rattle.bridge_core.specs.declared.bridge.Bridge.TheOpen.{Bridge-F, Bridges-F
 
 -- both are the same; both have any value of a type without parts; nothing of the near one is followed; the runs of two
 -- texts; a bridge for each field of a record; the same tag, with the bridge of its contents; two tags, of which the far
--- one was switched to
+-- one was switched to; for each item of a near list where it is in the far one, how many items that has, and the bridge
+-- of both contents
 mutual
   pub data BridgeTree : Type 0 where
     same : BridgeTree
@@ -19,6 +23,7 @@ mutual
     parts : BridgeTrees → BridgeTree
     arm : List ℕ → BridgeTree → BridgeTree
     away : List ℕ → List ℕ → BridgeTree
+    linked : List Link → ℕ → BridgeTrees → BridgeTree
 
   pub data BridgeTrees : Type 0 where
     no_bridges : BridgeTrees
@@ -40,6 +45,10 @@ bridge_at bs i = slice_index_or (bridge_list bs) i same
 abbrev pub put_bridge_at : BridgeTrees → ℕ → BridgeTree → BridgeTrees
 put_bridge_at bs i b = bridges_of (slice_set (bridge_list bs) i b)
 
+-- the bridges of the items of a near list after a plan of it: a fresh item is the same in both lists
+abbrev pub bridges_after : List Origin → BridgeTrees → BridgeTrees
+bridges_after from bs = bridges_of (map (content_at (bridge_list bs) same) from)
+
 -- for each document the bridge to itself
 abbrev pub same_each : DocTrees → BridgeTrees
 same_each no_docs = no_bridges
@@ -54,6 +63,7 @@ bridge_step (Bridge-F.Text b) = cells b.value
 bridge_step (Bridge-F.Rec bs) = parts bs
 bridge_step (Bridge-F.Arm a b) = arm a b.value
 bridge_step (Bridge-F.Away a c) = away a c
+bridge_step (Bridge-F.List b bs) = linked b.value.0 b.value.1 bs
 
 abbrev pub bridges_step : Bridges-F BridgeTree BridgeTrees → BridgeTrees
 bridges_step bs = bridges_of bs.items.items

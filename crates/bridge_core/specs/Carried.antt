@@ -1,18 +1,28 @@
 -- A word that was made for the near document, as a word for the far one, with the bridge behind it.
 -- Read it from the end: `carry` goes through a word, and `carry_primitive` has a line for each bridge.
-use Rattle.std.specs.Prelude.{ℕ, Bool, List, map, bytes_eq, if◌then◌else◌, Option, None, Some, Result, Ok, Err}
+use Rattle.std.specs.Prelude.{ℕ, Bool, List, map, bytes_eq, nat_lt, if◌then◌else◌, length, Option, None, Some, Result}
+use Rattle.std.specs.Prelude.{Ok, Err}
 use Rattle.std.specs.Str.{is_utf8}
 use Rattle.texts.specs.Characters.{character_count}
+use Rattle.hold_shapes.specs.declared.edit.Place.{Place as PlaceOf}
+use Rattle.hold_shapes.specs.declared.edit.Place.TheVariants.{Index, Key, Node}
+use Rattle.hold_shapes.specs.declared.edit.ShapeEdit.{ShapeEdit}
+use Rattle.hold_shapes.specs.Plans.{Planned, plan_list}
+use Rattle.bridge_links.specs.declared.link.Link.{Link}
+use Rattle.bridge_links.specs.Links.{link_at}
+use Rattle.bridge_lists.specs.Carried.{far_place}
+use Rattle.bridge_lists.specs.Carried as Lists
 use Rattle.bridge_texts.specs.declared.run.Run.{Run}
 use Rattle.bridge_texts.specs.Runs.{Piece, carried, near_spliced, shortest}
-use Rattle.doc_values.specs.Types.{TyTree, ty_rec, ty_alt}
+use Rattle.doc_values.specs.Types.{TyTree, ty_rec, ty_alt, ty_list}
 use Rattle.doc_values.specs.Typing.{lookup_field, lookup_type}
+use Rattle.edit_module.specs.Action.{cause_of}
 use Rattle.edit_module.specs.declared.fault.Cause.{Cause}
 use Rattle.edit_module.specs.declared.fault.Cause.TheVariants.{Kind, Place, Tag}
 use Rattle.edit_module.specs.Words.{PrimitiveTree, set, add, splice, at, stay, switch, modify, shape, WordTree}
 use Rattle.edit_module.specs.Words.{no_primitives, more_primitives, word_of, joined}
-use Rattle.bridge_core.specs.Bridges.{BridgeTree, same, other, lost, cells, parts, arm, away, BridgeTrees}
-use Rattle.bridge_core.specs.Bridges.{bridge_at, put_bridge_at}
+use Rattle.bridge_core.specs.Bridges.{BridgeTree, same, other, lost, cells, parts, arm, away, linked, BridgeTrees}
+use Rattle.bridge_core.specs.Bridges.{bridge_at, put_bridge_at, bridges_after}
 
 -- why a word is not carried: what it changes is gone, or it does not act on the near document for this cause
 pub data WhyNot : Type 0 where
@@ -91,6 +101,37 @@ carry_left old a = if bytes_eq a old then Err gone else Err (fails Tag)
 abbrev pub carry_switch : List ℕ → List ℕ → List ℕ → List ℕ → WordTree → Answer
 carry_switch old new a c w = if bytes_eq a old then passes (switch new c w) same else Err (fails Tag)
 
+-- ---- lists
+
+-- an edit of the item at a place, at its place in the far list; `inner` carries the inner word
+abbrev pub at_far : Option ℕ → (ℕ → Answer) → Answer
+at_far None go = Err gone
+at_far (Some y) go = go y
+
+abbrev pub carry_index : TyTree → List Link → ℕ → BridgeTrees → ℕ → (TyTree → BridgeTree → Answer) → Answer
+carry_index t ls m bs i inner =
+    if nat_lt i (length ls) then at_far (far_place m (link_at ls i))
+    (λ y. around (modify (Index y)) (λ b. linked ls m (put_bridge_at bs i b)) (inner t (bridge_at bs i)))
+    else Err (fails Place)
+
+abbrev pub carry_item :
+    TyTree → List Link → ℕ → BridgeTrees → PlaceOf → (TyTree → BridgeTree → Answer) → Answer
+carry_item (ty_list t) ls m bs (Index i) inner = carry_index t ls m bs i inner
+carry_item _ ls m bs p inner = Err (fails Kind)
+
+-- edits of the shape, one after another
+abbrev pub shapes : List ShapeEdit → WordTree
+shapes es = word_of (map shape es)
+
+-- an edit of the near list, by its plan and by what it is for the far list: nothing where it moves an item that is gone
+abbrev pub carry_planned : Planned → Option Lists.Carried → BridgeTrees → Answer
+carry_planned (Err cause) o bs = Err (fails (cause_of cause))
+carry_planned (Ok p) None bs = Err gone
+carry_planned (Ok p) (Some q) bs = Ok (shapes q.0, linked q.1 q.2 (bridges_after p.1 bs))
+
+abbrev pub carry_shape : List Link → ℕ → BridgeTrees → ShapeEdit → Answer
+carry_shape ls m bs e = carry_planned (plan_list (length ls) e) (Lists.carried e m ls) bs
+
 -- ---- all primitives and words
 
 -- a word in front of the one of an answer
@@ -118,4 +159,6 @@ abbrev mutual
   carry_primitive t (arm tag b) (switch a c w) = carry_switch tag tag a c w
   carry_primitive t (away old new) (stay a w) = carry_left old a
   carry_primitive t (away old new) (switch a c w) = carry_switch old new a c w
+  carry_primitive t (linked ls m bs) (modify p w) = carry_item t ls m bs p (λ u b. carry u b w)
+  carry_primitive t (linked ls m bs) (shape e) = carry_shape ls m bs e
   carry_primitive _ _ _ = Err (fails Kind)

@@ -4,7 +4,7 @@ use Rattle.edit_module.specs.Words.{WordTree}
 use Rattle.edit_module.specs.Views.{word_tree}
 use Rattle.bridge_core.specs.Bridges.{BridgeTree, bridge_tree}
 use Rattle.bridge_core.specs.Carried.{Answer, gone, fails}
-use Rattle.bridge_core.specs.declared.carrying.CarriedWord.{CarriedWord}
+use Rattle.bridge_core.specs.declared.carried_word.CarriedWord.{CarriedWord}
 use Rattle.bridge_core.specs.declared.fault.CarryFault.{CarryFault}
 use Rattle.bridge_core.specs.declared.fault.CarryFault.TheVariants.{Gone, NoApply, NoMemory}
 

@@ -2,17 +2,20 @@
 ghost use Rattle.std.specs.Prelude.{◌≡◌, IfOk, map};
 ghost use Rattle.doc_values.specs.Documents.{docs_tree};
 ghost use Rattle.bridge_core.specs.Bridges.{bridge_tree, bridges_tree, bridges_of, arm, no_bridges, same_each};
-ghost use Rattle.bridge_core.specs.Bridges.{bridge_at, put_bridge_at};
+ghost use Rattle.bridge_core.specs.Bridges.{same, bridge_list, bridge_at, put_bridge_at, bridges_after, linked};
+ghost use Rattle.hold_shapes.specs.Gather.{content_at};
 
+use bridge_lists::ListBridge;
 use bridge_texts::TextBridge;
 use doc_values::Docs;
+use hold_shapes::{Origin, Origins};
 use std::alloc::{AllocError, Global};
 use std::rc::Rc;
 use texts::{Name, Twin};
 
 /// How a document, the far one, differs from another, the near one, by the edits that were made of it.
 ///
-/// A copy shares the bridges of texts.
+/// A copy shares the bridges of texts and the links of lists.
 #[derive(Drop)]
 #[cycle(bridge)]
 pub enum Bridge {
@@ -20,7 +23,7 @@ pub enum Bridge {
     Same,
     /// A bool, an int or a member of an enum, which may be another one.
     Other,
-    /// A text that was set, or a container that was edited: nothing of the near one is followed.
+    /// A text that was set, or a keyed map or a tree that was edited: nothing of the near one is followed.
     Lost,
     /// A text that was spliced.
     Text(Rc<TextBridge>),
@@ -30,9 +33,11 @@ pub enum Bridge {
     Arm(Name, Box<Bridge>),
     /// The near document has the first tag, and the far one has been switched to the second.
     Away(Name, Name),
+    /// A list that was edited: where the items of the near one are in the far one, and a bridge for each of them.
+    List(Rc<ListBridge>, Bridges),
 }
 
-/// The bridges of the fields of a record, in order.
+/// The bridges of the fields of a record, or of the items of the near list, in order.
 #[derive(Drop)]
 #[cycle(bridge)]
 pub struct Bridges {
@@ -47,10 +52,22 @@ impl Bridge {
         let content = Box::new(alloc, inner)?;
         Ok(Bridge::Arm(tag.twin(alloc)?, content))
     }
+
+    // Two lists, with their links and the bridges of the near items.
+    pub(crate) fn with_links(
+        alloc: Global,
+        links: ListBridge,
+        inner: Bridges,
+    ) -> Result<Bridge, AllocError>
+        ensures { IfOk result (λ b. bridge_tree b ≡ linked links.0 links.1 (bridges_tree inner)) }
+    {
+        let links = Rc::new(alloc, links)?;
+        Ok(Bridge::List(links, inner))
+    }
 }
 
 impl Bridges {
-    /// The bridges, in the order of the fields.
+    /// The bridges, in the order of the fields or items.
     pub fn as_slice(&self) -> &[Bridge]
         ensures { bridges_of (map bridge_tree result.now) ≡ bridges_tree self.now }
     {
@@ -114,6 +131,29 @@ impl Bridges {
     }
 }
 
+impl Bridges {
+    // The bridges of the items of a near list after a plan of it. A fresh item is the same in both lists.
+    pub(crate) fn after(&self, alloc: Global, from: &Origins) -> Result<Bridges, AllocError>
+        ensures { IfOk result (λ bs. bridges_tree bs ≡ bridges_after from.now (bridges_tree self.now)) }
+    {
+        let mut items = Vec::new(alloc);
+        for origin in from {
+            items.push(self.of_origin(alloc, origin)?)?;
+        }
+        Ok(Bridges { items })
+    }
+
+    // The bridge of an item that comes from a place of the near list, or is fresh.
+    fn of_origin(&self, alloc: Global, origin: Origin) -> Result<Bridge, AllocError>
+        ensures { IfOk result (λ b. bridge_tree b ≡ content_at (bridge_list (bridges_tree self.now)) same origin) }
+    {
+        match origin {
+            Origin::Old(place) => self.at(alloc, place as usize),
+            Origin::Fresh => Ok(Bridge::Same),
+        }
+    }
+}
+
 impl Twin for Bridge {
     ghost use Rattle.bridge_core.specs.Bridges.{BridgeTree, bridge_tree};
 
@@ -141,6 +181,10 @@ fn copy(alloc: Global, bridge: &Bridge) -> Result<Bridge, AllocError>
         Bridge::Away(old, new) => {
             let old = old.twin(alloc)?;
             Ok(Bridge::Away(old, new.twin(alloc)?))
+        }
+        Bridge::List(links, items) => {
+            let items = copy_each(alloc, items)?;
+            Ok(Bridge::List(links.clone()?, items))
         }
     }
 }

@@ -2,37 +2,36 @@
 //!
 //! A word is walked as its action does: each primitive is applied to a copy, which shares its contents, and gives the
 //! value that the next one meets.
-ghost use Rattle.std.specs.Prelude.{◌≡◌, ◌<◌, Ok, IfOk, MatchResult, true, length};
-ghost use Rattle.std.specs.Str.{is_utf8};
-ghost use Rattle.doc_values.specs.Documents.{doc_tree, docs_tree, doc_list, rec, alt};
+ghost use Rattle.std.specs.Prelude.{◌≡◌, ◌<◌, Ok, IfOk, MatchResult, true};
+ghost use Rattle.doc_values.specs.Documents.{doc_tree, docs_tree};
 ghost use Rattle.doc_values.specs.Types.{ty_tree, is_well_formed};
 ghost use Rattle.doc_values.specs.Typing.{has};
 ghost use Rattle.edit_module.specs.Views.{primitive_tree, word_tree};
-ghost use Rattle.edit_module.specs.Action.{act, act_primitive, inner, put_at};
+ghost use Rattle.hold_shapes.specs.Shapes.{place_of};
+ghost use Rattle.edit_module.specs.Action.{act, act_primitive, act_at_place, inner, doc_at};
+ghost use Rattle.edit_module.specs.Containers.{IsHeld};
 ghost use Rattle.edit_module.specs.Refusals.{IsRefusal, IsPrimitiveRefusal};
-ghost use Rattle.edit_module.specs.Words.{at, stay, splice};
-ghost use Rattle.bridge_core.specs.Bridges.{bridge_tree, bridges_tree, same, parts, put_bridge_at};
-ghost use Rattle.bridge_core.specs.Bridged.{bridge, bridge_primitive, bridge_set, bridge_splice, with_splice};
-ghost use Rattle.bridge_core.specs.Bridged.{bridge_stay, bridge_switch, parts_of, arm_of};
+ghost use Rattle.edit_module.specs.Words.{at, stay, splice, modify, shape};
+ghost use Rattle.bridge_core.specs.Bridges.{bridge_tree, same};
+ghost use Rattle.bridge_core.specs.Bridged.{bridge, bridge_primitive};
+ghost use Rattle.bridge_core.specs.Bridged.{parts_of, arm_of, for_found, bridge_item};
+ghost use Rattle.bridge_core.specs.Bridged.{linked_of};
 ghost use Rattle.bridge_core.specs.Laws.{SpansValue};
 
-use crate::bridge::{Bridge, Bridges};
-use crate::laws::{a_bridge_spans, a_text_is_utf8};
-use bridge_texts::TextBridge;
+use crate::bridge::Bridge;
+use crate::laws::a_bridge_spans;
+use crate::list_bridging::{after_shape, inner_of, linked_of};
+use crate::made::{
+    Made, after_set, after_splice, after_switch, arm_of, parts_of, unchanged, with_content,
+    with_field, with_item,
+};
 use doc_values::{Doc, Docs, Ty};
-use edit_module::action::{self, field_of, tag_of};
+use edit_module::action::{self, field_of, item_of, tag_of};
 use edit_module::word::{Primitive, Word};
 use edit_module::{ActFault, Cause, PrimitiveFault};
-use std::alloc::{AllocError, Global};
-use std::rc::Rc;
+use hold_shapes::{Place, Shape, ShapeEdit};
+use std::alloc::Global;
 use texts::{Name, Str, Twin};
-
-// What a word, or a primitive, makes of the far document, and the bridge to it.
-#[derive(Drop)]
-struct Made {
-    value: Doc,
-    bridge: Bridge,
-}
 
 /// The bridge between a document and what a word makes of it.
 ///
@@ -89,16 +88,6 @@ fn walk(alloc: Global, ty: &Ty, word: &Word, doc: &Doc, before: &Bridge) -> Resu
     Ok(current)
 }
 
-// The document itself.
-fn unchanged(alloc: Global, doc: &Doc, before: &Bridge) -> Result<Made, AllocError>
-    ensures value { IfOk result (λ m. doc_tree m.value ≡ doc_tree doc.now) }
-    ensures bridge { IfOk result (λ m. bridge_tree m.bridge ≡ bridge_tree before.now) }
-{
-    let value = doc.twin(alloc)?;
-    let bridge = before.twin(alloc)?;
-    Ok(Made { value, bridge })
-}
-
 // The value of a document after an inner word, whose failure has its cause alone, and the bridge to it.
 #[cycle(walk)]
 fn inside(
@@ -153,7 +142,8 @@ fn step(
             let next = after_switch(alloc, before, from, to)?;
             acted(alloc, ty, primitive, doc, next)
         }
-        Primitive::Mod(..) | Primitive::Shape(_) => acted(alloc, ty, primitive, doc, Bridge::Lost),
+        Primitive::Mod(place, word) => at_place(alloc, ty, primitive, place, word, doc, before),
+        Primitive::Shape(edit) => shaped(alloc, ty, primitive, edit, doc, before),
         Primitive::At(name, word) => at_field(alloc, ty, name, word, doc, before),
         Primitive::Stay(tag, word) => at_tag(alloc, ty, tag, word, doc, before),
     }
@@ -182,32 +172,6 @@ fn acted(
             bridge: next,
         }),
         Err(fault) => Err(fault),
-    }
-}
-
-// The bridge after a value of a type was set.
-fn after_set(ty: &Ty) -> Bridge
-    ensures { bridge_tree result ≡ bridge_set (ty_tree ty.now) }
-{
-    match ty {
-        Ty::Text(_) => Bridge::Lost,
-        _ => Bridge::Other,
-    }
-}
-
-// The bridge after the far document went from a tag to another.
-fn after_switch(
-    alloc: Global,
-    before: &Bridge,
-    from: &Name,
-    to: &Name,
-) -> Result<Bridge, AllocError>
-    ensures { IfOk result (λ b. bridge_tree b ≡ bridge_switch (bridge_tree before.now) from.now to.now) }
-{
-    let to = to.twin(alloc)?;
-    match before {
-        Bridge::Away(old, _) => Ok(Bridge::Away(old.twin(alloc)?, to)),
-        _ => Ok(Bridge::Away(from.twin(alloc)?, to)),
     }
 }
 
@@ -242,43 +206,6 @@ fn spliced(
     };
     let next = after_splice(alloc, old, before, from, count, with)?;
     acted(alloc, ty, primitive, doc, next)
-}
-
-// The bridge after a splice of the far text.
-fn after_splice(
-    alloc: Global,
-    old: &Str,
-    before: &Bridge,
-    from: u64,
-    count: u64,
-    with: &Str,
-) -> Result<Bridge, AllocError>
-    ensures { IfOk result (λ b. bridge_tree b ≡ bridge_splice old.now (bridge_tree before.now) from count with.now) }
-{
-    match before {
-        Bridge::Same => {
-            a_text_is_utf8(old.as_str());
-            let runs = TextBridge::between_the_same(alloc);
-            with_splice(alloc, &runs, from, count, with)
-        }
-        Bridge::Text(runs) => with_splice(alloc, runs, from, count, with),
-        _ => Ok(Bridge::Lost),
-    }
-}
-
-// The bridge of a text with the runs after a splice of the far text.
-fn with_splice(
-    alloc: Global,
-    runs: &TextBridge,
-    from: u64,
-    count: u64,
-    with: &Str,
-) -> Result<Bridge, AllocError>
-    ensures { IfOk result (λ b. bridge_tree b ≡ with_splice (is_utf8 with.now) runs.now from count with.now) }
-{
-    a_text_is_utf8(with.as_str());
-    let next = runs.after_splice(alloc, from, count, with.character_count() as u64)?;
-    Ok(Bridge::Text(Rc::new(alloc, next)?))
 }
 
 // ---- records
@@ -318,59 +245,6 @@ fn at_field(
         Ok(made) => Ok(with_field(alloc, docs, &bridges, place, made)?),
         Err(fault) => Err(fault),
     }
-}
-
-// The bridges of the fields of a record.
-fn parts_of(alloc: Global, before: &Bridge, docs: &Docs) -> Result<Bridges, AllocError>
-    ensures { IfOk result (λ bs. bridges_tree bs ≡ parts_of (bridge_tree before.now) (docs_tree docs.now)) }
-{
-    match before {
-        Bridge::Same => Bridges::same_each(alloc, docs),
-        Bridge::Rec(bridges) => bridges.copy(alloc),
-        _ => Ok(Bridges::empty(alloc)),
-    }
-}
-
-// A record with another content of a field, and the bridges of all fields.
-fn with_field(
-    alloc: Global,
-    docs: &Docs,
-    bridges: &Bridges,
-    place: usize,
-    made: Made,
-) -> Result<Made, AllocError>
-    requires { place < length (doc_list (docs_tree docs.now)) }
-    ensures value { IfOk result (λ m.
-        doc_tree m.value ≡ rec (put_at (docs_tree docs.now) place (doc_tree made.value))) }
-    ensures bridge { IfOk result (λ m. bridge_tree m.bridge
-        ≡ parts (put_bridge_at (bridges_tree bridges.now) place (bridge_tree made.bridge))) }
-{
-    let next = bridges.with(alloc, place, made.bridge);
-    both(
-        rec_with(alloc, docs, place, made.value),
-        next.map(Bridge::Rec),
-    )
-}
-
-fn rec_with(alloc: Global, docs: &Docs, place: usize, next: Doc) -> Result<Doc, AllocError>
-    requires { place < length (doc_list (docs_tree docs.now)) }
-    ensures { IfOk result (λ d. doc_tree d ≡ rec (put_at (docs_tree docs.now) place (doc_tree next))) }
-{
-    let mut docs = docs.twin(alloc)?;
-    docs.set(alloc, place, next)?;
-    Ok(Doc::Rec(docs))
-}
-
-// A value with the bridge to it, if there was memory for both.
-fn both(
-    value: Result<Doc, AllocError>,
-    next: Result<Bridge, AllocError>,
-) -> Result<Made, AllocError>
-    ensures { IfOk result (λ m. (value ≡ Ok m.value) × (next ≡ Ok m.bridge)) }
-{
-    let value = value?;
-    let bridge = next?;
-    Ok(Made { value, bridge })
 }
 
 // ---- alternatives
@@ -414,44 +288,102 @@ fn at_tag(
     }
 }
 
-// The bridge of the contents, where both documents have the same tag.
-fn arm_of(alloc: Global, before: &Bridge) -> Result<Bridge, AllocError>
-    ensures { IfOk result (λ b. bridge_tree b ≡ arm_of (bridge_tree before.now)) }
-{
-    match before {
-        Bridge::Arm(_, inner) => inner.twin(alloc),
-        _ => Ok(Bridge::Same),
-    }
-}
+// ---- containers
 
-// A tag with another content, and the bridge to it.
-fn with_content(alloc: Global, held: &Name, before: &Bridge, made: Made) -> Result<Made, AllocError>
-    ensures value { IfOk result (λ m. doc_tree m.value ≡ alt held.now (doc_tree made.value)) }
-    ensures bridge { IfOk result (λ m. bridge_tree m.bridge
-        ≡ bridge_stay (bridge_tree before.now) held.now (bridge_tree made.bridge)) }
-{
-    let next = after_stay(alloc, held, before, made.bridge);
-    both(tagged(alloc, held, made.value), next)
-}
-
-fn tagged(alloc: Global, tag: &Name, content: Doc) -> Result<Doc, AllocError>
-    ensures { IfOk result (λ d. doc_tree d ≡ alt tag.now (doc_tree content)) }
-{
-    let content = Box::new(alloc, content)?;
-    Ok(Doc::Alt(tag.twin(alloc)?, content))
-}
-
-// The bridge after the content of a tag was acted on.
-fn after_stay(
+// Acts on the content at a place of a container.
+#[cycle(walk)]
+#[tactic(auto, using(crate::proofs::Walks::place_rules))]
+fn at_place(
     alloc: Global,
-    tag: &Name,
+    ty: &Ty,
+    primitive: &Primitive,
+    place: &Place,
+    word: &Word,
+    doc: &Doc,
     before: &Bridge,
-    inner: Bridge,
-) -> Result<Bridge, AllocError>
-    ensures { IfOk result (λ b. bridge_tree b ≡ bridge_stay (bridge_tree before.now) tag.now (bridge_tree inner)) }
+) -> Result<Made, PrimitiveFault>
+    requires well_formed { is_well_formed (ty_tree ty.now) ≡ true }
+    requires typed { has (ty_tree ty.now) (doc_tree doc.now) ≡ true }
+    requires is { primitive_tree primitive.now ≡ modify place.now (word_tree word.now) }
+    ensures value { MatchResult result
+        (λ m. act_primitive (ty_tree ty.now) (modify place.now (word_tree word.now)) (doc_tree doc.now)
+        ≡ Ok (doc_tree m.value))
+        (λ fault. IsPrimitiveRefusal
+        (act_primitive (ty_tree ty.now) (modify place.now (word_tree word.now)) (doc_tree doc.now)) fault) }
+    ensures bridge { IfOk result (λ m. bridge_tree m.bridge ≡ bridge_primitive (ty_tree ty.now)
+        (modify place.now (word_tree word.now)) (doc_tree doc.now) (bridge_tree before.now)) }
 {
-    match before {
-        Bridge::Away(..) => before.twin(alloc),
-        _ => Bridge::with_tag(alloc, tag, inner),
+    let Ty::List(inner) = ty else {
+        return acted(alloc, ty, primitive, doc, Bridge::Lost);
+    };
+    let Place::Index(_) = place else {
+        return acted(alloc, ty, primitive, doc, Bridge::Lost);
+    };
+    let Doc::Hold(shape, docs) = doc else {
+        return acted(alloc, ty, primitive, doc, Bridge::Lost);
+    };
+    at_item(alloc, inner, place, word, shape, docs, before)
+}
+
+// Acts on an item of a list.
+#[cycle(walk)]
+fn at_item(
+    alloc: Global,
+    ty: &Ty,
+    place: &Place,
+    word: &Word,
+    shape: &Shape,
+    docs: &Docs,
+    before: &Bridge,
+) -> Result<Made, PrimitiveFault>
+    requires well_formed { is_well_formed (ty_tree ty.now) ≡ true }
+    requires held { IsHeld (ty_tree ty.now) shape.now (docs_tree docs.now) }
+    ensures value { MatchResult result
+        (λ m. act_at_place (λ v. act (ty_tree ty.now) (word_tree word.now) v) shape.now (docs_tree docs.now) place.now
+        ≡ Ok (doc_tree m.value))
+        (λ fault. IsPrimitiveRefusal
+        (act_at_place (λ v. act (ty_tree ty.now) (word_tree word.now) v) shape.now (docs_tree docs.now) place.now)
+        fault) }
+    ensures bridge { IfOk result (λ m. bridge_tree m.bridge
+        ≡ for_found (bridge_tree before.now) (place_of shape.now place.now)
+        (λ y. bridge_item (linked_of (bridge_tree before.now) (docs_tree docs.now)) y
+        (λ c. bridge (ty_tree ty.now) (word_tree word.now) (doc_at (docs_tree docs.now) y) c))) }
+{
+    let Some(at) = item_of(place, ty, shape, docs) else {
+        return Err(PrimitiveFault::Fails(Cause::Place));
+    };
+    let links = linked_of(alloc, before, docs)?;
+    let old = inner_of(alloc, &links, at)?;
+    match inside(alloc, ty, word, docs.get(at), &old) {
+        Ok(made) => Ok(with_item(alloc, shape, docs, &links, at, made)?),
+        Err(fault) => Err(fault),
     }
+}
+
+// Edits the shape of a container.
+fn shaped(
+    alloc: Global,
+    ty: &Ty,
+    primitive: &Primitive,
+    edit: &ShapeEdit,
+    doc: &Doc,
+    before: &Bridge,
+) -> Result<Made, PrimitiveFault>
+    requires well_formed { is_well_formed (ty_tree ty.now) ≡ true }
+    requires typed { has (ty_tree ty.now) (doc_tree doc.now) ≡ true }
+    requires is { primitive_tree primitive.now ≡ shape edit.now }
+    ensures value { MatchResult result
+        (λ m. act_primitive (ty_tree ty.now) (shape edit.now) (doc_tree doc.now) ≡ Ok (doc_tree m.value))
+        (λ fault. IsPrimitiveRefusal (act_primitive (ty_tree ty.now) (shape edit.now) (doc_tree doc.now)) fault) }
+    ensures bridge { IfOk result (λ m. bridge_tree m.bridge ≡ bridge_primitive (ty_tree ty.now) (shape edit.now)
+        (doc_tree doc.now) (bridge_tree before.now)) }
+{
+    let Ty::List(_) = ty else {
+        return acted(alloc, ty, primitive, doc, Bridge::Lost);
+    };
+    let Doc::Hold(_, docs) = doc else {
+        return acted(alloc, ty, primitive, doc, Bridge::Lost);
+    };
+    let next = after_shape(alloc, before, docs, edit)?;
+    acted(alloc, ty, primitive, doc, next)
 }

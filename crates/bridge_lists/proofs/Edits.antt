@@ -1,6 +1,6 @@
 -- Edits that have a plan, what is carried of them, and changes of items.
 use Rattle.std.proofs.Common.{◌≡◌, ℕ, zero, suc, ◌+◌, ◌-◌, ◌≤◌, ◌<◌, Bool, true, false, List, [], ◌∷◌, ◌++◌, length, map, replicate, Option, Some, None, Result, Ok, Err, refl, sym, ap, ◌∙◌, arith, subst}
-use Rattle.std.specs.Prelude.{if◌then◌else◌, ◌&&◌, nat_eq, nat_lt, nat_le, option_map, IsTrue, IsOk, slice_get, slice_set}
+use Rattle.std.specs.Prelude.{if◌then◌else◌, ◌&&◌, nat_eq, nat_lt, nat_le, option_map, IsOk, slice_get, slice_set}
 use Rattle.std.specs.List.{insert, remove}
 use Rattle.std.proofs.lemmas.Bool.Decides.{nat_tests}
 use Rattle.std.proofs.lemmas.List.{length-set}
@@ -12,7 +12,7 @@ use Rattle.hold_shapes.specs.Plans.{Planned, plan_list, list_of, old_places, is_
 use Rattle.hold_shapes.specs.declared.origins.Origin.TheVariants.{Old, Fresh}
 use Rattle.bridge_links.specs.declared.link.Link.{Link}
 use Rattle.bridge_links.specs.Links.{place_of, far_at, link_at}
-use Rattle.bridge_links.specs.Spans.{AreRelated, Spans, SpansBy}
+use Rattle.bridge_links.specs.Spans.{AreRelated, Spans}
 use Rattle.bridge_lists.specs.Carried.{Carried, place_below, far_place, moved_from, carried_ins, carried_del, carried_reorder, carried}
 use Rattle.bridge_lists.specs.Laws.{contents_of, edited, all_edited, MovesLost, Carries}
 use Rattle.bridge_lists.proofs.FarOrders.{linked-place}
@@ -21,15 +21,15 @@ use Rattle.bridge_lists.proofs.Theorems.{ins-carries, move-carries, del-carries,
 
 -- ---- what the tests of a plan say
 
-left-true : (s t : Bool) → (s && t) ≡ true → s ≡ true
+pub left-true : (s t : Bool) → (s && t) ≡ true → s ≡ true
 left-true true t h = refl
 left-true false t h = absurd cc
 
-right-true : (s t : Bool) → (s && t) ≡ true → t ≡ true
+pub right-true : (s t : Bool) → (s && t) ≡ true → t ≡ true
 right-true true t h = h
 right-true false t h = absurd cc
 
-below-of : (i n : ℕ) → nat_lt i n ≡ true → i < n
+pub below-of : (i n : ℕ) → nat_lt i n ≡ true → i < n
 below-of i n h = grind (arith, nat_tests)
 
 below-so : (i n : ℕ) → i < n → nat_lt i n ≡ true
@@ -38,10 +38,10 @@ below-so i n h = grind (arith, nat_tests)
 eq-so : (i n : ℕ) → i ≡ n → nat_eq i n ≡ true
 eq-so i n h = grind (arith, nat_tests)
 
-most-of : (i n : ℕ) → nat_le i n ≡ true → i ≤ n
+pub most-of : (i n : ℕ) → nat_le i n ≡ true → i ≤ n
 most-of i n h = grind (arith, nat_tests)
 
-eq-of : (i n : ℕ) → nat_eq i n ≡ true → i ≡ n
+pub eq-of : (i n : ℕ) → nat_eq i n ≡ true → i ≡ n
 eq-of i n h = grind (arith, nat_tests)
 
 -- ---- the plans behind the tests
@@ -89,13 +89,13 @@ has-inner a xs ys true p cause h = h
 has-inner a xs ys false p cause h = absurd cc
 
 -- what the lists are is the same in each case
-record AreEdited (r : ℕ → ℕ → Bool) (e : ShapeEdit) (m a b : ℕ) (ls : List Link) (s t near : List ℕ) : Type 0 where
-  spans : SpansBy r ls s t
+record AreEdited {A B : Type 0} (r : A → B → Type 0) (e : ShapeEdit) (m : ℕ) (a : A) (b : B) (ls : List Link) (s : List A) (t : List B) (near : List A) : Type 0 where
+  spans : Spans r ls s t
   size : length t ≡ m
   planned : edited a e s ≡ Some near
-  fresh : IsTrue (r a b)
+  fresh : r a b
 
-carries : (r : ℕ → ℕ → Bool) (e : ShapeEdit) (m a b : ℕ) (ls : List Link) (s t near : List ℕ) (q : Carried) → AreEdited r e m a b ls s t near → carried e m ls ≡ Some q → Carries r q (edited a e s) b t
+carries : {A B : Type 0} (r : A → B → Type 0) (e : ShapeEdit) (m : ℕ) (a : A) (b : B) (ls : List Link) (s : List A) (t : List B) (near : List A) (q : Carried) → AreEdited r e m a b ls s t near → carried e m ls ≡ Some q → Carries r q (edited a e s) b t
 carries r (Ins c) m a b ls s t near q h g =
     let is : carried_ins c m ls ≡ q = cc in
     subst (λ k. Carries r k (edited a (Ins c) s) b t) is
@@ -123,7 +123,7 @@ carries r (Prune p) m a b ls s t near q h g = absurd cc
 carries r (Shift p i j) m a b ls s t near q h g = absurd cc
 carries r (Hang k p) m a b ls s t near q h g = absurd cc
 
-pub edit-carries : (r : ℕ → ℕ → Bool) (e : ShapeEdit) (m a b : ℕ) (ls : List Link) (s t near : List ℕ) (q : Carried) → SpansBy r ls s t → length t ≡ m → edited a e s ≡ Some near → IsTrue (r a b)
+pub edit-carries : {A B : Type 0} (r : A → B → Type 0) (e : ShapeEdit) (m : ℕ) (a : A) (b : B) (ls : List Link) (s : List A) (t : List B) (near : List A) (q : Carried) → Spans r ls s t → length t ≡ m → edited a e s ≡ Some near → r a b
     → carried e m ls ≡ Some q → Carries r q (edited a e s) b t
 edit-carries r e m a b ls s t near q h k p ab g = carries r e m a b ls s t near q (record { spans = h; size = k; planned = p; fresh = ab }) g
 
@@ -190,7 +190,7 @@ change-related r x y u v a b ls s t false e h g ab k =
     other : x ≡ u → ⊥
     other q = let same : nat_eq x u ≡ true = eq-so x u q in let c : true ≡ false = sym same ∙ e in cc
 
-change-spans : {A B : Type 0} (r : A → B → Type 0) (x y : ℕ) (a : A) (b : B) (ls : List Link) (s : List A) (t : List B) → Spans r ls s t → far_at ls x ≡ Some y → r a b
+pub change-spans : {A B : Type 0} (r : A → B → Type 0) (x y : ℕ) (a : A) (b : B) (ls : List Link) (s : List A) (t : List B) → Spans r ls s t → far_at ls x ≡ Some y → r a b
     → Spans r ls (slice_set s x a) (slice_set t y b)
 change-spans r x y a b ls s t h g ab =
     record {
@@ -199,8 +199,8 @@ change-spans r x y a b ls s t h g ab =
       related = λ u v k. change-related r x y u v a b ls s t (nat_eq x u) refl h g ab k;
     }
 
-pub change-carries : (r : ℕ → ℕ → Bool) (m x y a b : ℕ) (ls : List Link) (s t : List ℕ) → SpansBy r ls s t → far_place m (link_at ls x) ≡ Some y → IsTrue (r a b) → SpansBy r ls (slice_set s x a) (slice_set t y b)
-change-carries r m x y a b ls s t h g ab = change-spans (λ a b. IsTrue (r a b)) x y a b ls s t h (linked-place m y x ls g) ab
+pub change-carries : {A B : Type 0} (r : A → B → Type 0) (m x y : ℕ) (a : A) (b : B) (ls : List Link) (s : List A) (t : List B) → Spans r ls s t → far_place m (link_at ls x) ≡ Some y → r a b → Spans r ls (slice_set s x a) (slice_set t y b)
+change-carries r m x y a b ls s t h g ab = change-spans r x y a b ls s t h (linked-place m y x ls g) ab
 
 linked-to : (ls : List Link) (x y : ℕ) → far_at ls x ≡ Some y → place_of (link_at ls x) ≡ Some y
 linked-to [] x y h = absurd cc
@@ -214,9 +214,9 @@ not-below m y h k = of-test (nat_lt y m) (below-so y m h) k
     of-test true e g = cc
     of-test false e g = cc
 
-pub change-gone : (r : ℕ → ℕ → Bool) (m x y : ℕ) (ls : List Link) (s t : List ℕ) → SpansBy r ls s t → length t ≡ m → far_place m (link_at ls x) ≡ None → far_at ls x ≡ Some y → ⊥
+pub change-gone : {A B : Type 0} (r : A → B → Type 0) (m x y : ℕ) (ls : List Link) (s : List A) (t : List B) → Spans r ls s t → length t ≡ m → far_place m (link_at ls x) ≡ None → far_at ls x ≡ Some y → ⊥
 change-gone r m x y ls s t h e g k =
-    let w = far-there (λ a b. IsTrue (r a b)) t y (slice_get s x) (slice_get t y) refl (h.related x y k) in
+    let w = far-there r t y (slice_get s x) (slice_get t y) refl (h.related x y k) in
     not-below m y (omega arith) (subst (λ o. place_below m o ≡ None) (linked-to ls x y k) g)
 
 -- ---- theorem: both ways

@@ -5,3 +5,4 @@ pub mod Steps
 pub mod Theorems
 pub mod Edits
 pub mod Back
+pub mod FarEdits

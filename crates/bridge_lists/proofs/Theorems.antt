@@ -1,6 +1,6 @@
 -- What is carried of the edits of lists.
 use Rattle.std.proofs.Common.{◌≡◌, ℕ, zero, suc, ◌+◌, ◌-◌, ◌≤◌, ◌<◌, Bool, true, false, List, [], ◌∷◌, ◌++◌, length, map, take, drop, replicate, Option, Some, None, refl, sym, ap, ◌∙◌, arith, subst, ◌⊎◌, inl, inr}
-use Rattle.std.specs.Prelude.{if◌then◌else◌, ◌&&◌, nat_eq, nat_lt, nat_le, slice_get, option_map, IsTrue}
+use Rattle.std.specs.Prelude.{if◌then◌else◌, ◌&&◌, nat_eq, nat_lt, nat_le, slice_get, option_map}
 use Rattle.std.specs.List.{range_with_len, insert, remove}
 use Rattle.std.proofs.lemmas.List.{length-map, length-append, length-replicate}
 use Rattle.std.proofs.lemmas.Bool.Decides.{nat_tests}
@@ -11,7 +11,7 @@ use Rattle.hold_shapes.specs.declared.lists.TheConstants.{MOST_ITEMS}
 use Rattle.bridge_links.specs.declared.link.Link.{Link}
 use Rattle.bridge_links.specs.declared.link.Link.TheVariants.{Stays, Moved, Gone, Missed}
 use Rattle.bridge_links.specs.Links.{same_places, mover, moved_place, place_of, place_of_some, far_at, link_at, first_stay, content_of, gathered, far_planned, near_planned, fresh_count}
-use Rattle.bridge_links.specs.Spans.{AreApart, AreFree, AreFresh, Spans, SpansBy}
+use Rattle.bridge_links.specs.Spans.{AreApart, AreFree, AreFresh, Spans}
 use Rattle.bridge_links.proofs.Planned.{far-spans, near-spans, planned-twice, near-length}
 use Rattle.bridge_lists.specs.Carried.{Carried, behind, place_below, far_place, move_edit, longer, carried_ins, put_at, gap_before, gap_for, moved_to, moved_from, carried_move}
 use Rattle.bridge_lists.specs.Carried.{park_edits, park_links, park_free, parked, del_edit, shortened, carried_del, far_order, order_edit, ordered, carried_reorder}
@@ -22,7 +22,7 @@ use Rattle.bridge_lists.proofs.FarOrders.{linked-place, order-once, order-size, 
 -- ---- plans that lead to no place twice
 
 -- the links of a part of a shape to itself
-same-at : (k n x y : ℕ) → far_at (map Stays (range_with_len k n)) x ≡ Some y → y ≡ k + x
+pub same-at : (k n x y : ℕ) → far_at (map Stays (range_with_len k n)) x ≡ Some y → y ≡ k + x
 same-at k zero x y h = absurd cc
 same-at k (suc n) zero y h = let e : k ≡ y = cc in omega arith
 same-at k (suc n) (suc x) y h = let w = same-at (k + 1) n x y h in omega arith
@@ -206,7 +206,7 @@ length-gathered plan a xs = length-map plan (content_of xs a)
 
 -- ---- theorem: items at the end
 
-pub ins-carries : (r : ℕ → ℕ → Bool) (c m a b : ℕ) (ls : List Link) (s t : List ℕ) → SpansBy r ls s t → length t ≡ m → is_count c ≡ true → IsTrue (r a b) → Carries r (carried_ins c m ls) (edited a (Ins c) s) b t
+pub ins-carries : {A B : Type 0} (r : A → B → Type 0) (c m : ℕ) (a : A) (b : B) (ls : List Link) (s : List A) (t : List B) → Spans r ls s t → length t ≡ m → is_count c ≡ true → r a b → Carries r (carried_ins c m ls) (edited a (Ins c) s) b t
 ins-carries r c m a b ls s t h e k ab =
     let n = length s in
     record {
@@ -214,23 +214,23 @@ ins-carries r c m a b ls s t h e k ab =
       far = gathered (longer (length t) c) b t;
       near_is = ins-edited a c s k;
       far_is = ins-all b c t k;
-      spans = subst (λ i. SpansBy r (near_planned i (longer (length ls) c) (far_planned (longer i c) ls)) (gathered (longer n c) a s) (gathered (longer (length t) c) b t)) e
-          (subst (λ i. SpansBy r (near_planned (length t) (longer i c) (far_planned (longer (length t) c) ls)) (gathered (longer n c) a s) (gathered (longer (length t) c) b t)) (sym h.as_many)
-          (planned-twice (λ a b. IsTrue (r a b)) (length t) (longer n c) (longer (length t) c) ls a b s t h (longer-apart n c) (longer-fresh n (length t) c) ab));
+      spans = subst (λ i. Spans r (near_planned i (longer (length ls) c) (far_planned (longer i c) ls)) (gathered (longer n c) a s) (gathered (longer (length t) c) b t)) e
+          (subst (λ i. Spans r (near_planned (length t) (longer i c) (far_planned (longer (length t) c) ls)) (gathered (longer n c) a s) (gathered (longer (length t) c) b t)) (sym h.as_many)
+          (planned-twice r (length t) (longer n c) (longer (length t) c) ls a b s t h (longer-apart n c) (longer-fresh n (length t) c) ab));
       size = length-gathered (longer (length t) c) b t ∙ (size-longer (length t) c ∙ ap (λ i. i + c) e);
     }
 
 -- ---- theorem: one item is moved
 
-put-spans : (r : ℕ → ℕ → Bool) (i j a b : ℕ) (ls : List Link) (s t : List ℕ) → SpansBy r ls s t → i < length s → j < length s → IsTrue (r a b) → SpansBy r (put_at i j ls) (gathered (moved_place (length s) i j) a s) t
+put-spans : {A B : Type 0} (r : A → B → Type 0) (i j : ℕ) (a : A) (b : B) (ls : List Link) (s : List A) (t : List B) → Spans r ls s t → i < length s → j < length s → r a b → Spans r (put_at i j ls) (gathered (moved_place (length s) i j) a s) t
 put-spans r i j a b ls s t h p q ab =
-    subst (λ n. SpansBy r (near_planned 0 (moved_place n i j) ls) (gathered (moved_place (length s) i j) a s) t) (sym h.as_many)
-    (near-alone (λ a b. IsTrue (r a b)) 0 (moved_place (length s) i j) ls a b s t h (moved-apart (length s) i j p q) ab (no-fresh-moved (length s) i j))
+    subst (λ n. Spans r (near_planned 0 (moved_place n i j) ls) (gathered (moved_place (length s) i j) a s) t) (sym h.as_many)
+    (near-alone r 0 (moved_place (length s) i j) ls a b s t h (moved-apart (length s) i j p q) ab (no-fresh-moved (length s) i j))
 
-moved-to-carries : (r : ℕ → ℕ → Bool) (i j m y g a b : ℕ) (ls : List Link) (s t : List ℕ) → SpansBy r ls s t → length t ≡ m → i < length s → j < length s → y < m → g < m → IsTrue (r a b)
+moved-to-carries : {A B : Type 0} (r : A → B → Type 0) (i j m y g : ℕ) (a : A) (b : B) (ls : List Link) (s : List A) (t : List B) → Spans r ls s t → length t ≡ m → i < length s → j < length s → y < m → g < m → r a b
     → Carries r (moved_to i j m ls y g) (edited a (MoveItem i j) s) b t
 moved-to-carries r i j m y g a b ls s t h e p q o w ab =
-    let far = far-spans (λ a b. IsTrue (r a b)) (moved_place m y g) ls b s t h in
+    let far = far-spans r (moved_place m y g) ls b s t h in
     let moved : all_edited b (move_edit y g) t ≡ Some (gathered (moved_place m y g) b t) =
     subst (λ n. all_edited b (move_edit y g) t ≡ Some (gathered (moved_place n y g) b t)) e (move-all b y g t (omega arith) (omega arith)) in
     record {
@@ -258,7 +258,7 @@ gap-below m y (Some z) h k = of-test (nat_le z y)
     of-test true = k z refl
     of-test false = let w = k z refl in omega arith
 
-move-test-carries : (r : ℕ → ℕ → Bool) (i j m y a b : ℕ) (ls : List Link) (s t : List ℕ) (same : Bool) → nat_eq i j ≡ same → SpansBy r ls s t → length t ≡ m → i < length s → j < length s → y < m → IsTrue (r a b)
+move-test-carries : {A B : Type 0} (r : A → B → Type 0) (i j m y : ℕ) (a : A) (b : B) (ls : List Link) (s : List A) (t : List B) (same : Bool) → nat_eq i j ≡ same → Spans r ls s t → length t ≡ m → i < length s → j < length s → y < m → r a b
     → Carries r (if same then ([], ls, m) else moved_to i j m ls y (gap_for m j (put_at i j ls) y)) (edited a (MoveItem i j) s) b t
 move-test-carries r i j m y a b ls s t true u h e p q o ab =
     let ij : i ≡ j = grind (arith, nat_tests) in
@@ -274,28 +274,28 @@ move-test-carries r i j m y a b ls s t false u h e p q o ab =
     moved-to-carries r i j m y (gap_for m j (put_at i j ls) y) a b ls s t h e p q o
     (gap-below m y (place_below m (first_stay (drop (j + 1) (put_at i j ls)))) o (λ z g. below-is m z (first_stay (drop (j + 1) (put_at i j ls))) g)) ab
 
-move-from-carries : (r : ℕ → ℕ → Bool) (i j m a b : ℕ) (ls : List Link) (s t : List ℕ) (q : Carried) (o : Option ℕ) → SpansBy r ls s t → length t ≡ m → i < length s → j < length s → ((y : ℕ) → o ≡ Some y → y < m)
-    → IsTrue (r a b) → option_map (moved_from i j m ls) o ≡ Some q → Carries r q (edited a (MoveItem i j) s) b t
+move-from-carries : {A B : Type 0} (r : A → B → Type 0) (i j m : ℕ) (a : A) (b : B) (ls : List Link) (s : List A) (t : List B) (q : Carried) (o : Option ℕ) → Spans r ls s t → length t ≡ m → i < length s → j < length s → ((y : ℕ) → o ≡ Some y → y < m)
+    → r a b → option_map (moved_from i j m ls) o ≡ Some q → Carries r q (edited a (MoveItem i j) s) b t
 move-from-carries r i j m a b ls s t q None h e p k o ab w = absurd cc
 move-from-carries r i j m a b ls s t q (Some y) h e p k o ab w =
     let is : moved_from i j m ls y ≡ q = cc in
     subst (λ c. Carries r c (edited a (MoveItem i j) s) b t) is (move-test-carries r i j m y a b ls s t (nat_eq i j) refl h e p k (o y refl) ab)
 
-pub move-carries : (r : ℕ → ℕ → Bool) (i j m a b : ℕ) (ls : List Link) (s t : List ℕ) (q : Carried) → SpansBy r ls s t → length t ≡ m → i < length s → j < length s → IsTrue (r a b)
+pub move-carries : {A B : Type 0} (r : A → B → Type 0) (i j m : ℕ) (a : A) (b : B) (ls : List Link) (s : List A) (t : List B) (q : Carried) → Spans r ls s t → length t ≡ m → i < length s → j < length s → r a b
     → carried_move i j m ls ≡ Some q → Carries r q (edited a (MoveItem i j) s) b t
 move-carries r i j m a b ls s t q h e p k ab w = move-from-carries r i j m a b ls s t q (far_place m (link_at ls i)) h e p k (λ y g. below-is m y (place_of (link_at ls i)) g) ab w
 
 -- ---- theorem: the last items are removed
 
-record Parks (r : ℕ → ℕ → Bool) (q : Carried) (m f c b : ℕ) (s t : List ℕ) : Type 0 where
-  far : List ℕ
+record Parks {A B : Type 0} (r : A → B → Type 0) (q : Carried) (m f c : ℕ) (b : B) (s : List A) (t : List B) : Type 0 where
+  far : List B
   far_is : all_edited b q.0 t ≡ Some far
-  spans : SpansBy r q.1 s far
+  spans : Spans r q.1 s far
   size : length far ≡ m
   few : f ≤ q.2 + c
   less : q.2 ≤ m
 
-park-behind : (r : ℕ → ℕ → Bool) (es : List ShapeEdit) (q : Carried) (m f g c b : ℕ) (s t u : List ℕ) → all_edited b es t ≡ Some u → f ≤ g + 1 → Parks r q m g c b s u → Parks r (behind es q) m f (suc c) b s t
+park-behind : {A B : Type 0} (r : A → B → Type 0) (es : List ShapeEdit) (q : Carried) (m f g c : ℕ) (b : B) (s : List A) (t u : List B) → all_edited b es t ≡ Some u → f ≤ g + 1 → Parks r q m g c b s u → Parks r (behind es q) m f (suc c) b s t
 park-behind r es q m f g c b s t u e k h =
     record {
       far = h.far;
@@ -306,8 +306,8 @@ park-behind r es q m f g c b s t u e k h =
       less = h.less;
     }
 
-park-one : (r : ℕ → ℕ → Bool) (m x c f b : ℕ) (ls : List Link) (s t : List ℕ) (o : Option ℕ) → SpansBy r ls s t → length t ≡ m → f ≤ m → ((y : ℕ) → o ≡ Some y → y < m)
-    → ((f : ℕ) (ls : List Link) (t : List ℕ) → SpansBy r ls s t → length t ≡ m → f ≤ m → Parks r (parked m (x - 1) c f ls) m f c b s t)
+park-one : {A B : Type 0} (r : A → B → Type 0) (m x c f : ℕ) (b : B) (ls : List Link) (s : List A) (t : List B) (o : Option ℕ) → Spans r ls s t → length t ≡ m → f ≤ m → ((y : ℕ) → o ≡ Some y → y < m)
+    → ((f : ℕ) (ls : List Link) (t : List B) → Spans r ls s t → length t ≡ m → f ≤ m → Parks r (parked m (x - 1) c f ls) m f c b s t)
     → Parks r (behind (park_edits f o) (parked m (x - 1) c (park_free f o) (park_links m f ls o))) m f (suc c) b s t
 park-one r m x c f b ls s t None h e k o deeper = park-behind r [] (parked m (x - 1) c f ls) m f f c b s t t refl (omega arith) (deeper f ls t h e k)
 park-one r m x c f b ls s t (Some y) h e k o deeper =
@@ -317,10 +317,10 @@ park-one r m x c f b ls s t (Some y) h e k o deeper =
     let moved : all_edited b (move_edit y (f - 1)) t ≡ Some u =
     subst (λ n. all_edited b (move_edit y (f - 1)) t ≡ Some (gathered (moved_place n y (f - 1)) b t)) e (move-all b y (f - 1) t (omega arith) (omega arith)) in
     park-behind r (move_edit y (f - 1)) (parked m (x - 1) c (f - 1) (far_planned (moved_place m y (f - 1)) ls)) m f (f - 1) c b s t u moved (omega arith)
-    (deeper (f - 1) (far_planned (moved_place m y (f - 1)) ls) u (far-spans (λ a b. IsTrue (r a b)) (moved_place m y (f - 1)) ls b s t h)
+    (deeper (f - 1) (far_planned (moved_place m y (f - 1)) ls) u (far-spans r (moved_place m y (f - 1)) ls b s t h)
     (length-gathered (moved_place m y (f - 1)) b t ∙ size-moved m y (f - 1) p) (omega arith))
 
-parks : (r : ℕ → ℕ → Bool) (m x c f b : ℕ) (ls : List Link) (s t : List ℕ) → SpansBy r ls s t → length t ≡ m → f ≤ m → Parks r (parked m x c f ls) m f c b s t
+parks : {A B : Type 0} (r : A → B → Type 0) (m x c f : ℕ) (b : B) (ls : List Link) (s : List A) (t : List B) → Spans r ls s t → length t ≡ m → f ≤ m → Parks r (parked m x c f ls) m f c b s t
 parks r m x zero f b ls s t h e k = record { far = t; far_is = refl; spans = h; size = e; few = omega arith; less = k }
 parks r m x (suc c) f b ls s t h e k =
     park-one r m x c f b ls s t (far_place m (link_at ls (x - 1))) h e k (λ y g. below-is m y (place_of (link_at ls (x - 1))) g)
@@ -334,7 +334,7 @@ count-at-most c d h k p = of-tests (nat_le 1 c) (nat_le c MOST_ITEMS) refl refl 
     of-tests true false e g w = absurd cc
     of-tests false v e g w = absurd cc
 
-shortened-carries : (r : ℕ → ℕ → Bool) (m c a b : ℕ) (q : Carried) (s t : List ℕ) → Parks r q m m c b s t → is_count c ≡ true → c ≤ length s → IsTrue (r a b)
+shortened-carries : {A B : Type 0} (r : A → B → Type 0) (m c : ℕ) (a : A) (b : B) (q : Carried) (s : List A) (t : List B) → Parks r q m m c b s t → is_count c ≡ true → c ≤ length s → r a b
     → Carries r (shortened m (length s) c q) (edited a (Del c) s) b t
 shortened-carries r m c a b q s t w k p ab =
     let d = m - q.2 in
@@ -349,12 +349,12 @@ shortened-carries r m c a b q s t w k p ab =
       far = gathered (same_places q.2) b w.far;
       near_is = del-edited a c s k p;
       far_is = all-behind b q.0 (del_edit d) t w.far w.far_is ∙ gone;
-      spans = near-alone (λ a b. IsTrue (r a b)) 0 (same_places (length s - c)) (far_planned (same_places q.2) q.1) a b s (gathered (same_places q.2) b w.far)
-          (far-spans (λ a b. IsTrue (r a b)) (same_places q.2) q.1 b s w.far w.spans) (same-apart (length s - c)) ab (no-fresh-range 0 (length s - c));
+      spans = near-alone r 0 (same_places (length s - c)) (far_planned (same_places q.2) q.1) a b s (gathered (same_places q.2) b w.far)
+          (far-spans r (same_places q.2) q.1 b s w.far w.spans) (same-apart (length s - c)) ab (no-fresh-range 0 (length s - c));
       size = length-gathered (same_places q.2) b w.far ∙ size-same q.2;
     }
 
-pub del-carries : (r : ℕ → ℕ → Bool) (c m a b : ℕ) (ls : List Link) (s t : List ℕ) → SpansBy r ls s t → length t ≡ m → is_count c ≡ true → c ≤ length s → IsTrue (r a b)
+pub del-carries : {A B : Type 0} (r : A → B → Type 0) (c m : ℕ) (a : A) (b : B) (ls : List Link) (s : List A) (t : List B) → Spans r ls s t → length t ≡ m → is_count c ≡ true → c ≤ length s → r a b
     → Carries r (carried_del c m ls) (edited a (Del c) s) b t
 del-carries r c m a b ls s t h e k p ab =
     let w = parks r m (length ls) c m b ls s t h e (omega arith) in
@@ -363,21 +363,21 @@ del-carries r c m a b ls s t h e k p ab =
 
 -- ---- theorem: the items get another order
 
-pub reorder-carries : (r : ℕ → ℕ → Bool) (f : List ℕ) (m a b : ℕ) (ls : List Link) (s t : List ℕ) → SpansBy r ls s t → length t ≡ m → length f ≡ length s → is_each_new (length s) [] f ≡ true → IsTrue (r a b)
+pub reorder-carries : {A B : Type 0} (r : A → B → Type 0) (f : List ℕ) (m : ℕ) (a : A) (b : B) (ls : List Link) (s : List A) (t : List B) → Spans r ls s t → length t ≡ m → length f ≡ length s → is_each_new (length s) [] f ≡ true → r a b
     → Carries r (carried_reorder f m ls) (edited a (Reorder f) s) b t
 reorder-carries r f m a b ls s t h e k o ab =
     let g = far_order m ls f in
     let u = gathered (map Stays g) b t in
     let size : length g ≡ length t = order-size m ls f ∙ sym e in
     let once : is_each_new (length t) [] g ≡ true = subst (λ n. is_each_new n [] g ≡ true) (sym e) (order-once (length s) m ls f h.apart o) in
-    let far : SpansBy r (far_planned (map Stays g) ls) s u = far-spans (λ a b. IsTrue (r a b)) (map Stays g) ls b s t h in
-    let both : SpansBy r (ordered f g ls) (gathered (map Moved f) a s) u =
-    near-alone (λ a b. IsTrue (r a b)) 0 (map Moved f) (far_planned (map Stays g) ls) a b s u far (order-apart (length s) f o) ab (no-fresh-order f) in
+    let far : Spans r (far_planned (map Stays g) ls) s u = far-spans r (map Stays g) ls b s t h in
+    let both : Spans r (ordered f g ls) (gathered (map Moved f) a s) u =
+    near-alone r 0 (map Moved f) (far_planned (map Stays g) ls) a b s u far (order-apart (length s) f o) ab (no-fresh-order f) in
     record {
       near = gathered (map Stays f) a s;
       far = u;
       near_is = order-edited a f s k o;
       far_is = order-all b g t size once;
-      spans = subst (λ ys. SpansBy r (ordered f g ls) ys u) (gathered-moved a f s) both;
+      spans = subst (λ ys. Spans r (ordered f g ls) ys u) (gathered-moved a f s) both;
       size = length-gathered (map Stays g) b t ∙ (length-map g Stays ∙ order-size m ls f);
     }

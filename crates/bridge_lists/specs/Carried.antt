@@ -1,7 +1,9 @@
 -- An edit of a list, made for the near one, as edits of the far one, with the links between both after it.
--- Read it from the end: `carried`, then `carried_ins`, `carried_move`, `carried_del` and `carried_reorder`.
+-- Read it from the end: `carried`, then `carried_ins`, `carried_move`, `carried_del` and `carried_reorder`. Of an
+-- edit of the far list: `led_on`.
 use Rattle.std.specs.Prelude.{ℕ, zero, suc, ◌+◌, ◌-◌, Bool, true, false, if◌then◌else◌, ◌&&◌, List, [], ◌∷◌, ◌++◌}
-use Rattle.std.specs.Prelude.{length, map, drop, replicate, Option, Some, None, option_map, nat_eq, nat_lt, nat_le, slice_index_or}
+use Rattle.std.specs.Prelude.{length, map, drop, replicate, Option, Some, None, option_map, nat_eq, nat_lt, nat_le}
+use Rattle.std.specs.Prelude.{slice_index_or}
 use Rattle.hold_shapes.specs.declared.edit.ShapeEdit.{ShapeEdit}
 use Rattle.hold_shapes.specs.declared.edit.ShapeEdit.TheVariants.{Ins, Del, MoveItem, Reorder}
 use Rattle.hold_shapes.specs.Plans.{has_number}
@@ -148,7 +150,27 @@ ordered f g ls = near_planned 0 (map Moved f) (far_planned (map Stays g) ls)
 abbrev pub carried_reorder : List ℕ → ℕ → List Link → Carried
 carried_reorder f m ls = (order_edit (far_order m ls f), ordered f (far_order m ls f) ls, m)
 
--- ---- any edit
+-- ---- any edit of the far list
+
+-- the plan of an edit of a list of m items, as links
+abbrev pub edit_links : ℕ → ShapeEdit → List Link
+edit_links m (Ins c) = longer m c
+edit_links m (Del c) = same_places (m - c)
+edit_links m (MoveItem i j) = moved_place m i j
+edit_links m (Reorder f) = map Stays f
+edit_links m e = same_places m
+
+-- how many items there are then
+abbrev pub edit_size : ℕ → ShapeEdit → ℕ
+edit_size m (Ins c) = m + c
+edit_size m (Del c) = m - c
+edit_size m e = m
+
+-- the links, and the size of the far list, after an edit of that list
+abbrev pub led_on : ShapeEdit → List Link × ℕ → List Link × ℕ
+led_on e b = (far_planned (edit_links b.1 e) b.0, edit_size b.1 e)
+
+-- ---- any edit of the near list
 
 -- nothing where the far list does not have the item that is moved, and for edits of other shapes
 abbrev pub carried : ShapeEdit → ℕ → List Link → Option Carried

@@ -11,9 +11,10 @@ ghost use Rattle.bridge_links.specs.declared.link.Link.{Link};
 ghost use Rattle.bridge_links.specs.declared.link.Link.TheVariants.{Stays};
 ghost use Rattle.bridge_links.specs.Links.{same_places, moved_place, gathered, link_at, far_at};
 ghost use Rattle.bridge_links.specs.Spans.{SpansBy};
-ghost use Rattle.bridge_lists.specs.Carried.{Carried, longer, far_place, carried, carried_ins, carried_move, carried_del};
+ghost use Rattle.bridge_lists.specs.Carried.{Carried, longer, far_place, carried, carried_ins, carried_move};
+ghost use Rattle.bridge_lists.specs.Carried.{carried_del};
 ghost use Rattle.bridge_lists.specs.Carried.{carried_reorder};
-ghost use Rattle.bridge_lists.specs.Laws.{edited, all_edited, MovesLost, Carries};
+ghost use Rattle.bridge_lists.specs.Laws.{edited, all_edited, MovesLost, CarriesBy};
 
 /// The plans that bridges read as links are those of the edits.
 pub fn a_plan_is_followed()
@@ -32,7 +33,7 @@ pub fn a_plan_is_followed()
 pub fn an_insertion_is_carried()
     ensures { (r : ℕ → ℕ → Bool) (c m a b : ℕ) (ls : List Link) (s t : List ℕ)
         → SpansBy r ls s t → length t ≡ m → is_count c ≡ true → IsTrue (r a b)
-        → Carries r (carried_ins c m ls) (edited a (Ins c) s) b t }
+        → CarriesBy r (carried_ins c m ls) (edited a (Ins c) s) b t }
 {}
 
 /// A move of an item of the near list is carried to edits that have plans in the far one, and the links lead from the
@@ -41,7 +42,7 @@ pub fn a_move_is_carried()
     ensures { (r : ℕ → ℕ → Bool) (i j m a b : ℕ) (ls : List Link) (s t : List ℕ) (q : Carried)
         → SpansBy r ls s t → length t ≡ m → i < length s → j < length s → IsTrue (r a b)
         → carried_move i j m ls ≡ Some q
-        → Carries r q (edited a (MoveItem i j) s) b t }
+        → CarriesBy r q (edited a (MoveItem i j) s) b t }
 {}
 
 /// The removal of the last items of the near list is carried to edits that have plans in the far one, and the links
@@ -49,7 +50,7 @@ pub fn a_move_is_carried()
 pub fn a_deletion_is_carried()
     ensures { (r : ℕ → ℕ → Bool) (c m a b : ℕ) (ls : List Link) (s t : List ℕ)
         → SpansBy r ls s t → length t ≡ m → is_count c ≡ true → c ≤ length s → IsTrue (r a b)
-        → Carries r (carried_del c m ls) (edited a (Del c) s) b t }
+        → CarriesBy r (carried_del c m ls) (edited a (Del c) s) b t }
 {}
 
 /// Another order of the near list is carried to an edit that has a plan in the far one, and the links lead from the new
@@ -58,7 +59,7 @@ pub fn a_reorder_is_carried()
     ensures { (r : ℕ → ℕ → Bool) (f : List ℕ) (m a b : ℕ) (ls : List Link) (s t : List ℕ)
         → SpansBy r ls s t → length t ≡ m → length f ≡ length s
         → is_each_new (length s) [] f ≡ true → IsTrue (r a b)
-        → Carries r (carried_reorder f m ls) (edited a (Reorder f) s) b t }
+        → CarriesBy r (carried_reorder f m ls) (edited a (Reorder f) s) b t }
 {}
 
 /// Of an edit that has a plan for the near list, what is carried has plans in the far one, one after another.
@@ -70,7 +71,7 @@ pub fn an_edit_is_carried()
         (s t near : List ℕ) (q : Carried)
         → SpansBy r ls s t → length t ≡ m → edited a e s ≡ Some near → IsTrue (r a b)
         → carried e m ls ≡ Some q
-        → Carries r q (edited a e s) b t }
+        → CarriesBy r q (edited a e s) b t }
     ensures refused { (e : ShapeEdit) (m a : ℕ) (ls : List Link) (s near : List ℕ)
         → edited a e s ≡ Some near → carried e m ls ≡ None
         → MovesLost m ls e }

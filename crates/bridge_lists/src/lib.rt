@@ -4,6 +4,7 @@
 
 mod bridge;
 mod carry;
+mod far_edits;
 mod laws;
 mod moves;
 mod orders;

@@ -19,8 +19,8 @@ fn main(rt: HostRuntime) -> anyhow::Result<()> {
     run_files::<Copies>(&rt)
 }
 
-// The commands of a file: `compact`, `copy` and `back N`, and `show` and `verify` of the store that was made. Behind the
-// word `hub` they are of the store of a hub.
+// The commands of a file: `compact`, `copy` and `back N`, and `show` and `verify` of the store that was made. Behind
+// the word `hub` they are of the store of a hub.
 struct Copies;
 
 impl Commands for Copies {

@@ -1,15 +1,16 @@
 -- A form is fit if and only if it has no misfit.
-use Rattle.std.proofs.Common.{◌≡◌, ◌↔◌, ℕ, Bool, true, false, not, ◌&&◌, cond, List, ◌∷◌, Option, Some, None, option_map, Result, Ok, Err, IfOk, refl, sym, ap, ◌∙◌}
+use Rattle.std.proofs.Common.{◌≡◌, ◌↔◌, ℕ, Bool, true, false, not, ◌&&◌, ◌||◌, cond, List, [], ◌∷◌, Option, Some, None, option_map, Result, Ok, Err, IfOk, refl, sym, ap, ◌∙◌}
 use Rattle.std.specs.declared.alloc.AllocError.{AllocError}
 use Rattle.texts.specs.Keys.{is_before, is_rising, has_name}
 use Rattle.texts.proofs.Conjunction.{both, first as left, second as right}
 use Rattle.doc_values.specs.Types.{are_distinct}
-use Rattle.file_forms.specs.Forms.{FileFormTree, as_literal, as_object, as_tagged, as_bare, as_items, as_map, FormFields, no_forms, more_forms, form_names}
-use Rattle.file_forms.specs.Slots.{meets_any, are_told_apart}
-use Rattle.file_forms.specs.Fitting.{is_writable, is_fit, are_fit}
-use Rattle.file_forms.specs.Misfits.{misfit_view, inside, at_field, first_of, not_after, out_of_order, tag_twice, same_slot, literal_misfit, first_misfit, part_misfit}
+use Rattle.file_forms.specs.declared.literal.Literal.{Literal}
+use Rattle.file_forms.specs.Forms.{FileFormTree, as_literal, as_truths, as_words, as_object, as_tagged, as_bare, as_items, as_map, FormFields, no_forms, more_forms, form_names, word_names, word_literals}
+use Rattle.file_forms.specs.Slots.{literal_slot, is_literal, is_any, meets_any, are_told_apart}
+use Rattle.file_forms.specs.Fitting.{is_writable, are_writable, are_unlike, is_fit, are_fit}
+use Rattle.file_forms.specs.Misfits.{misfit_view, inside, at_field, first_of, not_after, out_of_order, tag_twice, same_slot, member_twice, same_literal, not_writable, literal_misfit, truths_misfit, words_misfit, first_misfit, part_misfit}
 use Rattle.file_forms.specs.declared.misfit.FormMisfit.{FormMisfit}
-use Rattle.file_forms.specs.declared.misfit.FormFault.TheVariants.{FieldOrder, TagTwice, SameSlot}
+use Rattle.file_forms.specs.declared.misfit.FormFault.TheVariants.{FieldOrder, TagTwice, SameSlot, NotANumber, MemberTwice, SameLiteral}
 use Rattle.file_forms.specs.declared.misfit.FormStep.TheVariants.{Named, Inside}
 
 -- ---- options
@@ -88,11 +89,105 @@ apart_back (more_forms n f fs) h =
     let b = meets_any f fs in
     cond_not b (Some n) (same_slot fs) (left (not b) (are_told_apart fs) h) (apart_back fs (right (not b) (are_told_apart fs) h))
 
+-- ---- literals
+
+truths_fit : (f t : Literal) → truths_misfit f t ≡ None → (are_unlike (f ∷ t ∷ []) && are_writable (f ∷ t ∷ [])) ≡ true
+truths_fit f t h =
+    let p = cond_some (is_literal t (literal_slot f)) (literal_misfit (is_writable f && is_writable t)) _ h in
+    let q = cond_none (is_writable f && is_writable t) None _ p.1 in
+    both (are_unlike (f ∷ t ∷ [])) (are_writable (f ∷ t ∷ [])) (unlike_by (is_literal t (literal_slot f)) p.0) (writable_by (is_writable f) (is_writable t) q.0)
+  where
+    unlike_by : (b : Bool) → not b ≡ true → (not (b || false) && true) ≡ true
+    unlike_by true h = cc
+    unlike_by false h = refl
+
+    writable_by : (a b : Bool) → (a && b) ≡ true → (a && (b && true)) ≡ true
+    writable_by true true h = refl
+    writable_by true false h = cc
+    writable_by false b h = cc
+
+truths_fit_back : (f t : Literal) → (are_unlike (f ∷ t ∷ []) && are_writable (f ∷ t ∷ [])) ≡ true → truths_misfit f t ≡ None
+truths_fit_back f t h =
+    cond_not (is_literal t (literal_slot f)) (Some ([], SameLiteral)) (literal_misfit (is_writable f && is_writable t))
+    (apart_by (is_literal t (literal_slot f)) (left (are_unlike (f ∷ t ∷ [])) (are_writable (f ∷ t ∷ [])) h))
+    (ap literal_misfit (writable_by (is_writable f) (is_writable t) (right (are_unlike (f ∷ t ∷ [])) (are_writable (f ∷ t ∷ [])) h)))
+  where
+    apart_by : (b : Bool) → (not (b || false) && true) ≡ true → not b ≡ true
+    apart_by true h = cc
+    apart_by false h = refl
+
+    writable_by : (a b : Bool) → (a && (b && true)) ≡ true → (a && b) ≡ true
+    writable_by true true h = refl
+    writable_by true false h = cc
+    writable_by false b h = cc
+
+members_differ : (ws : List (List ℕ × Literal)) → member_twice ws ≡ None → are_distinct (word_names ws) ≡ true
+members_differ [] h = refl
+members_differ (w ∷ ws) h =
+    let p = cond_some (has_name w.0 (word_names ws)) (member_twice ws) w.0 h in
+    both (not (has_name w.0 (word_names ws))) (are_distinct (word_names ws)) p.0 (members_differ ws p.1)
+
+members_differ_back : (ws : List (List ℕ × Literal)) → are_distinct (word_names ws) ≡ true → member_twice ws ≡ None
+members_differ_back [] h = refl
+members_differ_back (w ∷ ws) h =
+    let b = has_name w.0 (word_names ws) in
+    cond_not b (Some w.0) (member_twice ws) (left (not b) (are_distinct (word_names ws)) h) (members_differ_back ws (right (not b) (are_distinct (word_names ws)) h))
+
+literals_differ : (ws : List (List ℕ × Literal)) → same_literal ws ≡ None → are_unlike (word_literals ws) ≡ true
+literals_differ [] h = refl
+literals_differ (w ∷ ws) h =
+    let b = is_any (word_literals ws) (literal_slot w.1) in
+    let p = cond_some b (same_literal ws) w.0 h in
+    both (not b) (are_unlike (word_literals ws)) p.0 (literals_differ ws p.1)
+
+literals_differ_back : (ws : List (List ℕ × Literal)) → are_unlike (word_literals ws) ≡ true → same_literal ws ≡ None
+literals_differ_back [] h = refl
+literals_differ_back (w ∷ ws) h =
+    let b = is_any (word_literals ws) (literal_slot w.1) in
+    cond_not b (Some w.0) (same_literal ws) (left (not b) (are_unlike (word_literals ws)) h) (literals_differ_back ws (right (not b) (are_unlike (word_literals ws)) h))
+
+writable : (ws : List (List ℕ × Literal)) → not_writable ws ≡ None → are_writable (word_literals ws) ≡ true
+writable [] h = refl
+writable (w ∷ ws) h =
+    let p = cond_none (is_writable w.1) (not_writable ws) w.0 h in
+    both (is_writable w.1) (are_writable (word_literals ws)) p.0 (writable ws p.1)
+
+writable_back : (ws : List (List ℕ × Literal)) → are_writable (word_literals ws) ≡ true → not_writable ws ≡ None
+writable_back [] h = refl
+writable_back (w ∷ ws) h =
+    ap (λ b. cond b (not_writable ws) (Some w.0)) (left (is_writable w.1) (are_writable (word_literals ws)) h)
+    ∙ writable_back ws (right (is_writable w.1) (are_writable (word_literals ws)) h)
+
+words_fit : (ws : List (List ℕ × Literal)) → words_misfit ws ≡ None → (are_distinct (word_names ws) && (are_unlike (word_literals ws) && are_writable (word_literals ws))) ≡ true
+words_fit ws h =
+    let same = option_map (at_field SameLiteral) (same_literal ws) in
+    let letters = option_map (at_field NotANumber) (not_writable ws) in
+    let p = neither (option_map (at_field MemberTwice) (member_twice ws)) (first_of same letters) h in
+    let q = neither same letters p.1 in
+    both (are_distinct (word_names ws)) (are_unlike (word_literals ws) && are_writable (word_literals ws))
+    (members_differ ws (map_none (at_field MemberTwice) (member_twice ws) p.0))
+    (both (are_unlike (word_literals ws)) (are_writable (word_literals ws))
+    (literals_differ ws (map_none (at_field SameLiteral) (same_literal ws) q.0)) (writable ws (map_none (at_field NotANumber) (not_writable ws) q.1)))
+
+words_fit_back : (ws : List (List ℕ × Literal)) → (are_distinct (word_names ws) && (are_unlike (word_literals ws) && are_writable (word_literals ws))) ≡ true → words_misfit ws ≡ None
+words_fit_back ws h =
+    let same = option_map (at_field SameLiteral) (same_literal ws) in
+    let letters = option_map (at_field NotANumber) (not_writable ws) in
+    let literals = right (are_distinct (word_names ws)) (are_unlike (word_literals ws) && are_writable (word_literals ws)) h in
+    neither_back (option_map (at_field MemberTwice) (member_twice ws)) (first_of same letters)
+    (map_none_back (at_field MemberTwice) (member_twice ws)
+    (members_differ_back ws (left (are_distinct (word_names ws)) (are_unlike (word_literals ws) && are_writable (word_literals ws)) h)))
+    (neither_back same letters
+    (map_none_back (at_field SameLiteral) (same_literal ws) (literals_differ_back ws (left (are_unlike (word_literals ws)) (are_writable (word_literals ws)) literals)))
+    (map_none_back (at_field NotANumber) (not_writable ws) (writable_back ws (right (are_unlike (word_literals ws)) (are_writable (word_literals ws)) literals))))
+
 -- ---- a form and its parts
 
 mutual
   pub fits : (f : FileFormTree) → first_misfit f ≡ None → is_fit f ≡ true
   fits (as_literal l) h = (cond_none (is_writable l) None _ h).0
+  fits (as_truths f t) h = truths_fit f t h
+  fits (as_words ws n) h = words_fit ws h
   fits (as_object fs) h =
       let p = neither (option_map (at_field FieldOrder) (out_of_order fs)) (part_misfit fs) h in
       both (is_rising (form_names fs)) (are_fit fs) (in_order fs (map_none (at_field FieldOrder) (out_of_order fs) p.0)) (parts_fit fs p.1)
@@ -118,6 +213,8 @@ mutual
 mutual
   pub fits_back : (f : FileFormTree) → is_fit f ≡ true → first_misfit f ≡ None
   fits_back (as_literal l) h = ap literal_misfit h
+  fits_back (as_truths f t) h = truths_fit_back f t h
+  fits_back (as_words ws n) h = words_fit_back ws h
   fits_back (as_object fs) h =
       neither_back (option_map (at_field FieldOrder) (out_of_order fs)) (part_misfit fs)
       (map_none_back (at_field FieldOrder) (out_of_order fs) (in_order_back fs (left (is_rising (form_names fs)) (are_fit fs) h)))

@@ -2,6 +2,7 @@ pub mod Facts
 pub mod Sorting
 pub mod SortedMembers
 pub mod Telling
+pub mod MemberLiterals
 pub mod IntTexts
 pub mod Contents
 pub mod WriteReads

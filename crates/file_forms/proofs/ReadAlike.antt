@@ -2,13 +2,14 @@
 use Rattle.std.proofs.Common.{◌≡◌, ℕ, cond, bytes_eq, List, Option, Some, None, option_map, option_and_then, refl, sym, ap, ap₂, ◌∙◌}
 use Rattle.json.specs.Json.{Json, Members, no_members, member}
 use Rattle.json.specs.Strict.{keys}
-use Rattle.doc_values.specs.Documents.{DocTree, unit, rec, alt, more_docs}
-use Rattle.file_forms.specs.Forms.{FileFormTree, as_literal, as_bool, as_int, as_text, as_enum, as_number, as_object, as_tagged, as_bare, as_items, as_map, FormFields, no_forms, more_forms}
+use Rattle.doc_values.specs.Documents.{DocTree, unit, truth, pick, rec, alt, more_docs}
+use Rattle.file_forms.specs.Forms.{FileFormTree, as_literal, as_bool, as_truths, as_int, as_text, as_enum, as_words, as_number, as_object, as_tagged, as_bare, as_items, as_map, FormFields, no_forms, more_forms}
 use Rattle.file_forms.specs.Orders.{by_name, sorted, sorted_members}
 use Rattle.file_forms.specs.Slots.{takes}
 use Rattle.file_forms.specs.FileValues.{head_slot, after_head, listed_doc, keyed_doc, members_read, only_read, read, read_fields, read_tag, read_bare}
 use Rattle.file_forms.proofs.Sorting.{each_sorted, each_keys, by_name-sorted}
 use Rattle.file_forms.proofs.Telling.{tree_alike, literal_alike, takes_alike}
+use Rattle.file_forms.proofs.MemberLiterals.{truth_alike, word_alike}
 use Rattle.file_forms.proofs.Contents.{items_alike, members_alike, only_alike, head_each, after_each}
 
 -- the document of a keyed map from its members in order
@@ -24,9 +25,11 @@ mutual
   pub alike : (f : FileFormTree) (s : Option Json) → read f s ≡ read f (option_map sorted s)
   alike (as_literal l) s = ap (λ b. cond b (Some unit) None) (literal_alike l s)
   alike as_bool s = tree_alike (read as_bool) (λ js. refl) (λ ms. refl) s
+  alike (as_truths f t) s = ap (option_map truth) (truth_alike f t s)
   alike (as_int i) s = tree_alike (read (as_int i)) (λ js. refl) (λ ms. refl) s
   alike (as_text i) s = tree_alike (read (as_text i)) (λ js. refl) (λ ms. refl) s
   alike (as_enum ns i) s = tree_alike (read (as_enum ns i)) (λ js. refl) (λ ms. refl) s
+  alike (as_words ws i) s = ap (option_map pick) (word_alike ws s)
   alike (as_number i) s = tree_alike (read (as_number i)) (λ js. refl) (λ ms. refl) s
   alike (as_object fs) s =
       tree_alike (read (as_object fs)) (λ js. refl)

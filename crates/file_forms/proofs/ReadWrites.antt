@@ -10,16 +10,17 @@ use Rattle.texts.proofs.KeyOrder.{bytes_eq-refl}
 use Rattle.texts.proofs.Tests.{bytes_eq-is, or_second, nat_eq-refl}
 use Rattle.hold_shapes.specs.declared.shape.Shape.TheVariants.{Keyed as KeyedOf}
 use Rattle.doc_values.specs.Types.{are_distinct}
-use Rattle.doc_values.specs.Documents.{DocTree, unit, int, text, pick, rec, alt, hold, DocTrees, more_docs, doc_list}
-use Rattle.file_forms.specs.Forms.{FileFormTree, as_literal, as_bool, as_int, as_text, as_enum, as_number, as_object, as_tagged, as_bare, as_items, as_map, FormFields, no_forms, more_forms, form_names}
+use Rattle.doc_values.specs.Documents.{DocTree, unit, truth, int, text, pick, rec, alt, hold, DocTrees, more_docs, doc_list}
+use Rattle.file_forms.specs.Forms.{FileFormTree, as_literal, as_bool, as_truths, as_int, as_text, as_enum, as_words, as_number, as_object, as_tagged, as_bare, as_items, as_map, FormFields, no_forms, more_forms, form_names, word_names, word_literals}
 use Rattle.file_forms.specs.Orders.{by_name, sorted, sorted_items, sorted_members}
 use Rattle.file_forms.specs.Slots.{is_literal, takes, are_told_apart}
-use Rattle.file_forms.specs.Fitting.{is_fit, are_fit}
+use Rattle.file_forms.specs.Fitting.{are_unlike, are_writable, is_fit, are_fit}
 use Rattle.file_forms.specs.Numbers.{is_number}
-use Rattle.file_forms.specs.FileValues.{int_text, head_slot, after_head, with_slot, listed_doc, keyed_doc, array_slot, object_slot, tagged_slot, items_read, members_read, items_written, members_written, read, read_fields, read_tag, read_bare, write, write_fields, write_tag}
+use Rattle.file_forms.specs.FileValues.{int_text, truth_of, word_of, head_slot, after_head, with_slot, listed_doc, keyed_doc, array_slot, object_slot, tagged_slot, items_read, members_read, items_written, members_written, read, read_fields, read_tag, read_bare, write, write_fields, write_tag}
 use Rattle.file_forms.proofs.Facts.{some_is, bind_some, map_some, if_some, choice, refuted, not_both}
 use Rattle.file_forms.proofs.Sorting.{each_sorted, sorted_each}
 use Rattle.file_forms.proofs.Telling.{literal-is, sorted_literal}
+use Rattle.file_forms.proofs.MemberLiterals.{truth_found, word_found, other_name}
 use Rattle.file_forms.proofs.IntTexts.{int_found}
 use Rattle.file_forms.proofs.Contents.{items_found, members_found, only_found, head_back}
 
@@ -30,10 +31,6 @@ pub record BareFound (fs : FormFields) (s : Option Json) (v : DocTree) : Type 0 
   pub is : alt tag content ≡ v
   pub named : has_name tag (form_names fs) ≡ true
   pub written : write_tag fs tag content ≡ Some (option_map sorted s)
-
--- another name of the list is not the name that the list lacks
-other_name : (n m : List ℕ) (ns : List (List ℕ)) → not (has_name n ns) ≡ true → has_name m ns ≡ true → bytes_eq n m ≡ false
-other_name n m ns lacks has = refuted (bytes_eq n m) (λ e. not_both (has_name n ns) lacks (ap (λ x. has_name x ns) (bytes_eq-is n m e) ∙ has))
 
 bare_case : (t : Bool) (n : List ℕ) (f : FileFormTree) (fs : FormFields) (s : Option Json) (v : DocTree) → not (has_name n (form_names fs)) ≡ true
     → ((d : DocTree) → read f s ≡ Some d → write f d ≡ Some (option_map sorted s)) → (read_bare fs s ≡ Some v → BareFound fs s v)
@@ -64,6 +61,9 @@ mutual
       let e = literal-is l s p.0 in
       subst (λ x. write (as_literal l) x ≡ Some (option_map sorted s)) p.1 (ap Some (sym (ap (option_map sorted) e ∙ sorted_literal l)))
   found as_bool (Some (boolean b)) v k h = subst (λ x. write as_bool x ≡ Some (Some (boolean b))) (some_is _ _ h) refl
+  found (as_truths f t) s v k h =
+      let m = map_some truth (truth_of f t s) v h in
+      subst (λ x. write (as_truths f t) x ≡ Some (option_map sorted s)) m.2 (ap Some (truth_found f t s m.0 m.1))
   found (as_int i) (Some (number t)) v k h =
       let m = map_some int (int_text t) v h in
       let r = int_found t m.0 m.1 in
@@ -73,6 +73,10 @@ mutual
   found (as_enum ms i) (Some (string t)) v k h =
       let p = if_some (has_name t ms) (pick t) v h in
       subst (λ x. write (as_enum ms i) x ≡ Some (Some (string t))) p.1 (ap (λ b. cond b (Some (Some (string t))) None) p.0)
+  found (as_words ws i) s v k h =
+      let m = map_some pick (word_of ws s) v h in
+      let distinct = left (are_distinct (word_names ws)) (are_unlike (word_literals ws) && are_writable (word_literals ws)) k in
+      subst (λ x. write (as_words ws i) x ≡ Some (option_map sorted s)) m.2 (word_found ws s m.0 distinct m.1)
   found (as_number i) (Some (number t)) v k h =
       let p = if_some (is_number t) (text t) v h in
       subst (λ x. write (as_number i) x ≡ Some (Some (number t))) p.1 (ap (λ b. cond b (Some (Some (number t))) None) p.0)

@@ -1,12 +1,12 @@
 -- Which slots a form takes: what it writes, and of forms that are told apart one alone.
-use Rattle.std.proofs.Common.{◌≡◌, ℕ, true, false, not, ◌||◌, bytes_eq, List, Option, Some, None, option_map, refl, sym, subst, ap, ◌∙◌}
+use Rattle.std.proofs.Common.{◌≡◌, ℕ, Bool, true, false, not, ◌||◌, bytes_eq, List, [], ◌∷◌, Option, Some, None, option_map, refl, sym, subst, ap, ◌∙◌}
 use Rattle.std.specs.Prelude.{nat_eq}
 use Rattle.std.specs.Option.{option_flatten}
 use Rattle.std.proofs.lemmas.Bool.{eqb-true, eq-eqb}
 use Rattle.json.specs.Json.{Json, null, boolean, number, string, array, object, Items, Members}
 use Rattle.texts.specs.Keys.{has_name, is_rising}
 use Rattle.texts.proofs.KeyOrder.{bytes_eq-refl}
-use Rattle.texts.proofs.Tests.{bytes_eq-is_back}
+use Rattle.texts.proofs.Tests.{bytes_eq-is_back, or_second}
 use Rattle.hold_shapes.specs.declared.shape.Shape.TheVariants.{List as ListOf, Keyed as KeyedOf}
 use Rattle.doc_values.specs.Documents.{DocTree, unit, truth, int, text, pick, rec, alt, hold, doc_list}
 use Rattle.doc_values.specs.Integers.{fits_i64}
@@ -14,11 +14,11 @@ use Rattle.std.specs.Fmt.{signed_decimal}
 use Rattle.std.proofs.Common.{length}
 use Rattle.file_forms.specs.declared.literal.Literal.{Literal}
 use Rattle.file_forms.specs.declared.literal.Literal.TheVariants.{Gone, Null, Bool as Truth, Number, Text}
-use Rattle.file_forms.specs.Forms.{FileFormTree, as_literal, as_bool, as_int, as_text, as_enum, as_number, as_object, as_tagged, as_bare, as_items, as_map, FormFields, no_forms, more_forms}
+use Rattle.file_forms.specs.Forms.{FileFormTree, as_literal, as_bool, as_truths, as_int, as_text, as_enum, as_words, as_number, as_object, as_tagged, as_bare, as_items, as_map, FormFields, no_forms, more_forms, word_literals}
 use Rattle.file_forms.specs.Orders.{sorted, sorted_items, sorted_members}
-use Rattle.file_forms.specs.Slots.{literal_slot, is_literal, sort_of, sort_number, same_sort, Sign, exactly, any_of, has_sign, sign, takes, any_takes, clash, sign_meets, sign_meets_any, meets_any, some_meets_any}
+use Rattle.file_forms.specs.Slots.{literal_slot, is_literal, is_any, sort_of, sort_number, same_sort, Sign, exactly, any_of, has_sign, sign, takes, any_takes, clash, sign_meets, sign_meets_literals, sign_meets_any, meets_any, some_meets_any, some_literal_meets}
 use Rattle.file_forms.specs.Numbers.{is_number}
-use Rattle.file_forms.specs.FileValues.{array_slot, object_slot, tagged_slot, items_written, members_written, write, write_fields, write_tag}
+use Rattle.file_forms.specs.FileValues.{truth_literal, word_slot, array_slot, object_slot, tagged_slot, items_written, members_written, write, write_fields, write_tag}
 use Rattle.file_forms.proofs.Facts.{some_is, map_some, if_some, if_then, choice_or, either, refuted, not_both}
 
 -- ---- literals
@@ -73,8 +73,16 @@ clash-shown (any_of t) (exactly m) s a b = subst (λ x. same_sort t (sort_of x) 
 clash-shown (any_of t) (any_of u) s a b =
     eq-eqb (sort_number t) (sort_number u) (eqb-true (sort_number t) (sort_number (sort_of s)) a ∙ sym (eqb-true (sort_number u) (sort_number (sort_of s)) b))
 
+sign-meets-literals : (g : Sign) (ls : List Literal) (s : Option Json) → has_sign g s ≡ true → is_any ls s ≡ true → sign_meets_literals g ls ≡ true
+sign-meets-literals g [] s a b = cc
+sign-meets-literals g (l ∷ ls) s a b =
+    either (is_literal l s) (is_any ls s) (clash g (exactly l)) (sign_meets_literals g ls) b
+    (λ h. clash-shown g (exactly l) s a h) (λ h. sign-meets-literals g ls s a h)
+
 mutual
   sign-meets : (g : Sign) (f : FileFormTree) (s : Option Json) → has_sign g s ≡ true → takes f s ≡ true → sign_meets g f ≡ true
+  sign-meets g (as_truths f t) s a b = sign-meets-literals g (f ∷ t ∷ []) s a b
+  sign-meets g (as_words ws n) s a b = sign-meets-literals g (word_literals ws) s a b
   sign-meets g (as_bare fs) s a b = sign-meets-any g fs s a b
   sign-meets g f s a b = clash-shown g (sign f) s a b
 
@@ -83,8 +91,16 @@ mutual
   sign-meets-any g (more_forms n f fs) s a b =
       either (takes f s) (any_takes fs s) (sign_meets g f) (sign_meets_any g fs) b (λ h. sign-meets g f s a h) (λ h. sign-meets-any g fs s a h)
 
+some-literal-meets : (ls : List Literal) (fs : FormFields) (s : Option Json) → is_any ls s ≡ true → any_takes fs s ≡ true → some_literal_meets ls fs ≡ true
+some-literal-meets [] fs s a b = cc
+some-literal-meets (l ∷ ls) fs s a b =
+    either (is_literal l s) (is_any ls s) (sign_meets_any (exactly l) fs) (some_literal_meets ls fs) a
+    (λ h. sign-meets-any (exactly l) fs s h b) (λ h. some-literal-meets ls fs s h b)
+
 mutual
   meets-any : (f : FileFormTree) (fs : FormFields) (s : Option Json) → takes f s ≡ true → any_takes fs s ≡ true → meets_any f fs ≡ true
+  meets-any (as_truths f t) fs s a b = some-literal-meets (f ∷ t ∷ []) fs s a b
+  meets-any (as_words ws n) fs s a b = some-literal-meets (word_literals ws) fs s a b
   meets-any (as_bare gs) fs s a b = some-meets-any gs fs s a b
   meets-any f fs s a b = sign-meets-any (sign f) fs s a b
 
@@ -99,13 +115,25 @@ taken_once f fs s apart taken = refuted (takes f s) (λ h. not_both (meets_any f
 
 -- ---- what is written is taken
 
+truth-takes : (f t : Literal) (b : Bool) → is_any (f ∷ t ∷ []) (literal_slot (truth_literal f t b)) ≡ true
+truth-takes f t false = ap (λ b. b || is_any (t ∷ []) (literal_slot f)) (literal-refl f)
+truth-takes f t true = or_second (is_literal f (literal_slot t)) (is_any (t ∷ []) (literal_slot t)) (ap (λ b. b || false) (literal-refl t))
+
+pub word-takes : (ws : List (List ℕ × Literal)) (n : List ℕ) (s : Option Json) → word_slot ws n ≡ Some s → is_any (word_literals ws) s ≡ true
+word-takes [] n s h = cc
+word-takes (w ∷ ws) n s h =
+    choice_or (bytes_eq w.0 n) (Some (literal_slot w.1)) (word_slot ws n) (Some s) (is_literal w.1 s) (is_any (word_literals ws) s)
+    (λ e. subst (λ x. is_literal w.1 x ≡ true) (some_is _ _ e) (literal-refl w.1)) (λ e. word-takes ws n s e) h
+
 mutual
   pub write-takes : (f : FileFormTree) (d : DocTree) (s : Option Json) → write f d ≡ Some s → takes f s ≡ true
   write-takes (as_literal l) unit s h = subst (λ x. takes (as_literal l) x ≡ true) (some_is _ _ h) (literal-refl l)
   write-takes as_bool (truth b) s h = subst (λ x. takes as_bool x ≡ true) (some_is _ _ h) refl
+  write-takes (as_truths f t) (truth b) s h = subst (λ x. takes (as_truths f t) x ≡ true) (some_is _ _ h) (truth-takes f t b)
   write-takes (as_int i) (int z) s h = subst (λ x. takes (as_int i) x ≡ true) (if_some (fits_i64 z) (Some (number (signed_decimal z))) s h).1 refl
   write-takes (as_text i) (text t) s h = subst (λ x. takes (as_text i) x ≡ true) (some_is _ _ h) refl
   write-takes (as_enum ms i) (pick n) s h = subst (λ x. takes (as_enum ms i) x ≡ true) (if_some (has_name n ms) (Some (string n)) s h).1 refl
+  write-takes (as_words ws i) (pick n) s h = word-takes ws n s h
   write-takes (as_number i) (text t) s h = subst (λ x. takes (as_number i) x ≡ true) (if_some (is_number t) (Some (number t)) s h).1 refl
   write-takes (as_object fs) (rec ds) s h = subst (λ x. takes (as_object fs) x ≡ true) (map_some object_slot (write_fields fs ds) s h).2 refl
   write-takes (as_tagged fs) (alt n d) s h = subst (λ x. takes (as_tagged fs) x ≡ true) (map_some (tagged_slot n) (option_flatten (write_tag fs n d)) s h).2 refl
@@ -143,8 +171,15 @@ sign_alike : (g : Sign) (s : Option Json) → has_sign g s ≡ has_sign g (optio
 sign_alike (exactly l) s = literal_alike l s
 sign_alike (any_of t) s = ap (same_sort t) (tree_alike sort_of (λ js. refl) (λ ms. refl) s)
 
+pub any_literal_alike : (ls : List Literal) (s : Option Json) → is_any ls s ≡ is_any ls (option_map sorted s)
+any_literal_alike [] s = refl
+any_literal_alike (l ∷ ls) s =
+    ap (λ b. b || is_any ls s) (literal_alike l s) ∙ ap (λ b. is_literal l (option_map sorted s) || b) (any_literal_alike ls s)
+
 mutual
   pub takes_alike : (f : FileFormTree) (s : Option Json) → takes f s ≡ takes f (option_map sorted s)
+  takes_alike (as_truths f t) s = any_literal_alike (f ∷ t ∷ []) s
+  takes_alike (as_words ws n) s = any_literal_alike (word_literals ws) s
   takes_alike (as_bare fs) s = any_alike fs s
   takes_alike f s = sign_alike (sign f) s
 

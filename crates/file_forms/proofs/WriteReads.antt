@@ -14,14 +14,15 @@ use Rattle.hold_shapes.specs.declared.shape.Shape.TheVariants.{List as ListOf, K
 use Rattle.doc_values.specs.Types.{are_distinct}
 use Rattle.doc_values.specs.Documents.{DocTree, unit, truth, int, text, pick, rec, alt, hold, DocTrees, no_docs, more_docs, doc_list}
 use Rattle.doc_values.specs.Integers.{fits_i64}
-use Rattle.file_forms.specs.Forms.{FileFormTree, as_literal, as_bool, as_int, as_text, as_enum, as_number, as_object, as_tagged, as_bare, as_items, as_map, FormFields, no_forms, more_forms, form_names}
+use Rattle.file_forms.specs.Forms.{FileFormTree, as_literal, as_bool, as_truths, as_int, as_text, as_enum, as_words, as_number, as_object, as_tagged, as_bare, as_items, as_map, FormFields, no_forms, more_forms, form_names, word_names, word_literals}
 use Rattle.file_forms.specs.Slots.{takes, meets_any, are_told_apart}
-use Rattle.file_forms.specs.Fitting.{is_fit, are_fit}
+use Rattle.file_forms.specs.Fitting.{are_unlike, are_writable, is_fit, are_fit}
 use Rattle.file_forms.specs.Numbers.{is_number}
 use Rattle.file_forms.specs.FileValues.{head_slot, after_head, with_slot, listed_doc, keyed_doc, array_slot, object_slot, tagged_slot, members_read, items_written, members_written, read, read_fields, read_tag, read_bare, write, write_fields, write_tag}
 use Rattle.file_forms.proofs.Facts.{some_is, bind_some, map_some, flatten_some, if_some, if_then, choice}
 use Rattle.file_forms.proofs.Sorting.{by_name-rising}
 use Rattle.file_forms.proofs.Telling.{literal-refl, taken_once, write-takes, tag-takes}
+use Rattle.file_forms.proofs.MemberLiterals.{truth_again, word_again}
 use Rattle.file_forms.proofs.IntTexts.{int_again}
 use Rattle.file_forms.proofs.Contents.{items_again, members_again, keys_written, head_with, after_with}
 
@@ -88,6 +89,9 @@ mutual
   again (as_literal l) unit s k h =
       subst (λ x. read (as_literal l) x ≡ Some unit) (some_is _ _ h) (ap (λ b. cond b (Some unit) None) (literal-refl l))
   again as_bool (truth b) s k h = subst (λ x. read as_bool x ≡ Some (truth b)) (some_is _ _ h) refl
+  again (as_truths f t) (truth b) s k h =
+      let apart = left (are_unlike (f ∷ t ∷ [])) (are_writable (f ∷ t ∷ [])) k in
+      subst (λ x. read (as_truths f t) x ≡ Some (truth b)) (some_is _ _ h) (ap (option_map truth) (truth_again f t b apart))
   again (as_int i) (int z) s k h =
       let p = if_some (fits_i64 z) (Some (number (signed_decimal z))) s h in
       subst (λ x. read (as_int i) x ≡ Some (int z)) p.1 (ap (option_map int) (int_again z p.0))
@@ -95,6 +99,9 @@ mutual
   again (as_enum ms i) (pick n) s k h =
       let p = if_some (has_name n ms) (Some (string n)) s h in
       subst (λ x. read (as_enum ms i) x ≡ Some (pick n)) p.1 (ap (λ b. cond b (Some (pick n)) None) p.0)
+  again (as_words ws i) (pick n) s k h =
+      let literals = right (are_distinct (word_names ws)) (are_unlike (word_literals ws) && are_writable (word_literals ws)) k in
+      ap (option_map pick) (word_again ws n s (left (are_unlike (word_literals ws)) (are_writable (word_literals ws)) literals) h)
   again (as_number i) (text t) s k h =
       let p = if_some (is_number t) (Some (number t)) s h in
       subst (λ x. read (as_number i) x ≡ Some (text t)) p.1 (ap (λ b. cond b (Some (text t)) None) p.0)

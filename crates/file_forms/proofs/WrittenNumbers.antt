@@ -18,11 +18,11 @@ use Rattle.doc_values.specs.Documents.{DocTree, unit, truth, int, text, pick, re
 use Rattle.doc_values.specs.Integers.{fits_i64}
 use Rattle.file_forms.specs.declared.literal.Literal.{Literal}
 use Rattle.file_forms.specs.declared.literal.Literal.TheVariants.{Gone, Null, Bool as Truth, Number, Text}
-use Rattle.file_forms.specs.Forms.{FileFormTree, as_literal, as_bool, as_int, as_text, as_enum, as_number, as_object, as_tagged, as_bare, as_items, as_map, FormFields, no_forms, more_forms, form_names}
+use Rattle.file_forms.specs.Forms.{FileFormTree, as_literal, as_bool, as_truths, as_int, as_text, as_enum, as_words, as_number, as_object, as_tagged, as_bare, as_items, as_map, FormFields, no_forms, more_forms, form_names, word_names, word_literals}
 use Rattle.file_forms.specs.Numbers.{nothing_left, is_number}
 use Rattle.file_forms.specs.Slots.{literal_slot, are_told_apart}
-use Rattle.file_forms.specs.Fitting.{is_writable, is_fit, are_fit}
-use Rattle.file_forms.specs.FileValues.{with_slot, array_slot, object_slot, tagged_slot, items_written, members_written, write, write_fields, write_tag}
+use Rattle.file_forms.specs.Fitting.{is_writable, are_writable, are_unlike, is_fit, are_fit}
+use Rattle.file_forms.specs.FileValues.{truth_literal, word_slot, with_slot, array_slot, object_slot, tagged_slot, items_written, members_written, write, write_fields, write_tag}
 use Rattle.file_forms.proofs.Facts.{some_is, bind_some, map_some, flatten_some, if_some, if_then}
 
 -- a slot that has a tree has one in which each number has the letters of one
@@ -49,6 +49,10 @@ literal_numbers (Truth b) h = tt
 literal_numbers (Number s) h = number-is s h
 literal_numbers (Text s) h = tt
 
+truth_numbers : (f t : Literal) (b : Bool) → are_writable (f ∷ t ∷ []) ≡ true → SlotHasNumbers (literal_slot (truth_literal f t b))
+truth_numbers f t false k = literal_numbers f (left (is_writable f) (are_writable (t ∷ [])) k)
+truth_numbers f t true k = literal_numbers t (left (is_writable t) true (right (is_writable f) (are_writable (t ∷ [])) k))
+
 joined : (n : List ℕ) (s : Option Json) (ms : Members) → SlotHasNumbers s → MembersHaveNumbers ms → MembersHaveNumbers (with_slot n s ms)
 joined n None ms h k = k
 joined n (Some j) ms h k = (h, k)
@@ -57,6 +61,13 @@ joined n (Some j) ms h k = (h, k)
 chosen : {X : Type 0} (b : Bool) (p q : Option X) (x : X) (P : Type 0) → (p ≡ Some x → P) → (q ≡ Some x → P) → cond b p q ≡ Some x → P
 chosen true p q x P f g h = f h
 chosen false p q x P f g h = g h
+
+word_numbers : (ws : List (List ℕ × Literal)) (n : List ℕ) (s : Option Json) → are_writable (word_literals ws) ≡ true → word_slot ws n ≡ Some s → SlotHasNumbers s
+word_numbers [] n s k h = cc
+word_numbers (w ∷ ws) n s k h =
+    chosen (bytes_eq w.0 n) (Some (literal_slot w.1)) (word_slot ws n) s (SlotHasNumbers s)
+    (λ e. subst SlotHasNumbers (some_is _ _ e) (literal_numbers w.1 (left (is_writable w.1) (are_writable (word_literals ws)) k)))
+    (λ e. word_numbers ws n s (right (is_writable w.1) (are_writable (word_literals ws)) k) e) h
 
 module _ (write : DocTree → Option (Option Json)) (numbers : (d : DocTree) (j : Json) → write d ≡ Some (Some j) → HasNumbers j) where
   items_numbers : (ds : DocTrees) (js : Items) → items_written write ds ≡ Some js → ItemsHaveNumbers js
@@ -79,11 +90,16 @@ mutual
   pub numbers : (f : FileFormTree) (d : DocTree) (s : Option Json) → is_fit f ≡ true → write f d ≡ Some s → SlotHasNumbers s
   numbers (as_literal l) unit s k h = subst SlotHasNumbers (some_is _ _ h) (literal_numbers l k)
   numbers as_bool (truth b) s k h = subst SlotHasNumbers (some_is _ _ h) tt
+  numbers (as_truths f t) (truth b) s k h =
+      subst SlotHasNumbers (some_is _ _ h) (truth_numbers f t b (right (are_unlike (f ∷ t ∷ [])) (are_writable (f ∷ t ∷ [])) k))
   numbers (as_int i) (int z) s k h =
       let p = if_some (fits_i64 z) (Some (number (signed_decimal z))) s h in
       subst SlotHasNumbers p.1 (IsNumber-signed_decimal z (small z p.0))
   numbers (as_text i) (text t) s k h = subst SlotHasNumbers (some_is _ _ h) tt
   numbers (as_enum ms i) (pick n) s k h = subst SlotHasNumbers (if_some (has_name n ms) (Some (string n)) s h).1 tt
+  numbers (as_words ws i) (pick n) s k h =
+      let literals = right (are_distinct (word_names ws)) (are_unlike (word_literals ws) && are_writable (word_literals ws)) k in
+      word_numbers ws n s (right (are_unlike (word_literals ws)) (are_writable (word_literals ws)) literals) h
   numbers (as_number i) (text t) s k h =
       let p = if_some (is_number t) (Some (number t)) s h in
       subst SlotHasNumbers p.1 (number-is t p.0)

@@ -10,9 +10,10 @@ use Rattle.hold_shapes.specs.declared.shape.Shape.TheVariants.{List as ListOf, K
 use Rattle.doc_values.specs.Types.{TyTree, ty_alt}
 use Rattle.doc_values.specs.Documents.{DocTree, unit, truth, int, text, pick, rec, alt, hold, DocTrees, no_docs, more_docs, doc_list}
 use Rattle.doc_values.specs.Typing.{has, has_fields, has_each, lookup_field, later_field}
-use Rattle.file_forms.specs.Forms.{FileFormTree, as_literal, as_bool, as_int, as_text, as_enum, as_number, as_object, as_tagged, as_bare, as_items, as_map, FormFields, no_forms, more_forms, type_of, types_of}
+use Rattle.file_forms.specs.Forms.{FileFormTree, as_literal, as_bool, as_truths, as_int, as_text, as_enum, as_words, as_number, as_object, as_tagged, as_bare, as_items, as_map, FormFields, no_forms, more_forms, type_of, types_of}
 use Rattle.file_forms.specs.FileValues.{with_slot, array_slot, object_slot, tagged_slot, items_written, members_written, read, write, write_fields, write_tag}
 use Rattle.file_forms.proofs.Facts.{bind_some, map_some, flatten_some, if_some, if_then}
+use Rattle.file_forms.proofs.MemberLiterals.{slot_named}
 use Rattle.file_forms.proofs.Contents.{items_typed, members_typed, many_written}
 
 -- the content of a tag that is found has its type, or a later one has
@@ -27,9 +28,11 @@ mutual
   pub typed : (f : FileFormTree) (d : DocTree) (s : Option Json) → write f d ≡ Some s → has (type_of f) d ≡ true
   typed (as_literal l) unit s h = refl
   typed as_bool (truth b) s h = refl
+  typed (as_truths f t) (truth b) s h = refl
   typed (as_int i) (int z) s h = refl
   typed (as_text i) (text t) s h = refl
   typed (as_enum ms i) (pick n) s h = (if_some (has_name n ms) (Some (string n)) s h).0
+  typed (as_words ws i) (pick n) s h = slot_named ws n s h
   typed (as_number i) (text t) s h = refl
   typed (as_object fs) (rec ds) s h =
       let m = map_some object_slot (write_fields fs ds) s h in

@@ -1,6 +1,6 @@
 -- The document that a tree of a file is, and the slot that a document is written as, by a form. From the end: `write`,
 -- `read`.
-use Rattle.std.specs.Prelude.{ℕ, ℤ, ◌&&◌, List, [], ◌∷◌, length, Option, Some, None, option_map}
+use Rattle.std.specs.Prelude.{ℕ, ℤ, Bool, true, false, ◌&&◌, List, [], ◌∷◌, length, Option, Some, None, option_map}
 use Rattle.std.specs.Prelude.{option_and_then, if◌then◌else◌, bytes_eq, nat_eq, pos, neg_ℤ, cond, ◌==◌}
 use Rattle.std.specs.Option.{option_flatten}
 use Rattle.std.specs.Fmt.{signed_decimal}
@@ -13,8 +13,10 @@ use Rattle.hold_shapes.specs.declared.shape.Shape.TheVariants.{List as ListOf, K
 use Rattle.doc_values.specs.Documents.{DocTree, unit, truth, int, text, pick, rec, alt, hold, DocTrees, no_docs}
 use Rattle.doc_values.specs.Documents.{more_docs, doc_list}
 use Rattle.doc_values.specs.Integers.{fits_i64}
-use Rattle.file_forms.specs.Forms.{FileFormTree, as_literal, as_bool, as_int, as_text, as_enum, as_number, as_object}
-use Rattle.file_forms.specs.Forms.{as_tagged, as_bare, as_items, as_map, FormFields, no_forms, more_forms}
+use Rattle.file_forms.specs.declared.literal.Literal.{Literal}
+use Rattle.file_forms.specs.Forms.{FileFormTree, as_literal, as_bool, as_truths, as_int, as_text, as_enum, as_words}
+use Rattle.file_forms.specs.Forms.{as_number, as_object, as_tagged, as_bare, as_items, as_map, FormFields, no_forms}
+use Rattle.file_forms.specs.Forms.{more_forms}
 use Rattle.file_forms.specs.Numbers.{is_number}
 use Rattle.file_forms.specs.Orders.{by_name}
 use Rattle.file_forms.specs.Slots.{literal_slot, is_literal, takes}
@@ -33,6 +35,27 @@ int_from s z = if fits_i64 z && bytes_eq (signed_decimal z) s then Some z else N
 -- the i64 that is written as this text
 abbrev pub int_text : List ℕ → Option ℤ
 int_text s = int_from s (int_value s)
+
+-- ---- literals
+
+-- the truth value whose literal the slot is
+abbrev pub truth_of : Literal → Literal → Option Json → Option Bool
+truth_of f t s = if is_literal f s then Some false else (if is_literal t s then Some true else None)
+
+-- the literal of a truth value
+abbrev pub truth_literal : Literal → Literal → Bool → Literal
+truth_literal f t false = f
+truth_literal f t true = t
+
+-- the first member whose literal the slot is
+abbrev pub word_of : List (List ℕ × Literal) → Option Json → Option (List ℕ)
+word_of [] s = None
+word_of (w ∷ ws) s = if is_literal w.1 s then Some w.0 else word_of ws s
+
+-- what the literal of a member stands for
+abbrev pub word_slot : List (List ℕ × Literal) → List ℕ → Option (Option Json)
+word_slot [] n = None
+word_slot (w ∷ ws) n = if bytes_eq w.0 n then Some (literal_slot w.1) else word_slot ws n
 
 -- ---- members and contents
 
@@ -103,9 +126,11 @@ abbrev mutual
   pub read : FileFormTree → Option Json → Option DocTree
   read (as_literal l) s = if is_literal l s then Some unit else None
   read as_bool (Some (boolean b)) = Some (truth b)
+  read (as_truths f t) s = option_map truth (truth_of f t s)
   read (as_int i) (Some (number s)) = option_map int (int_text s)
   read (as_text i) (Some (string s)) = Some (text s)
   read (as_enum ms i) (Some (string s)) = if has_name s ms then Some (pick s) else None
+  read (as_words ws i) s = option_map pick (word_of ws s)
   read (as_number i) (Some (number s)) = if is_number s then Some (text s) else None
   read (as_object fs) (Some (object ms)) = option_map rec (read_fields fs (by_name ms))
   read (as_tagged fs) (Some (object ms)) = only_read (read_tag fs) (by_name ms)
@@ -138,9 +163,11 @@ abbrev mutual
   pub write : FileFormTree → DocTree → Option (Option Json)
   write (as_literal l) unit = Some (literal_slot l)
   write as_bool (truth b) = Some (Some (boolean b))
+  write (as_truths f t) (truth b) = Some (literal_slot (truth_literal f t b))
   write (as_int i) (int z) = if fits_i64 z then Some (Some (number (signed_decimal z))) else None
   write (as_text i) (text s) = Some (Some (string s))
   write (as_enum ms i) (pick n) = if has_name n ms then Some (Some (string n)) else None
+  write (as_words ws i) (pick n) = word_slot ws n
   write (as_number i) (text s) = if is_number s then Some (Some (number s)) else None
   write (as_object fs) (rec ds) = option_map object_slot (write_fields fs ds)
   write (as_tagged fs) (alt n d) = option_map (tagged_slot n) (option_flatten (write_tag fs n d))

@@ -7,17 +7,29 @@ use Rattle.file_forms.specs.declared.literal.Literal.{Literal}
 use Rattle.file_forms.specs.declared.form.FileForm.{FileForm, fold-FileForm}
 use Rattle.file_forms.specs.declared.form.FileForm.TheOpen.{FileForm-F}
 
--- how a file has a document: null, or another literal in its place; a bool; a number; a string; a member of an enum as
--- a string; a text as a number with these letters; a record as an object with a member for each field that is there;
--- alternatives as an object with the tag as its one member, or as the content alone; a list as an array; a keyed map as
--- an object
+-- the names of members, each of which has a literal
+abbrev pub word_names : List (List ℕ × Literal) → List (List ℕ)
+word_names [] = []
+word_names (w ∷ ws) = w.0 ∷ word_names ws
+
+-- the literals of members
+abbrev pub word_literals : List (List ℕ × Literal) → List Literal
+word_literals [] = []
+word_literals (w ∷ ws) = w.1 ∷ word_literals ws
+
+-- how a file has a document: null, or another literal in its place; a bool, or a literal for each truth value, that of
+-- false first; a number; a string; a member of an enum as a string, or as the literal of that member; a text as a
+-- number with these letters; a record as an object with a member for each field that is there; alternatives as an
+-- object with the tag as its one member, or as the content alone; a list as an array; a keyed map as an object
 mutual
   pub data FileFormTree : Type 0 where
     as_literal : Literal → FileFormTree
     as_bool : FileFormTree
+    as_truths : Literal → Literal → FileFormTree
     as_int : ℤ → FileFormTree
     as_text : List ℕ → FileFormTree
     as_enum : List (List ℕ) → List ℕ → FileFormTree
+    as_words : List (List ℕ × Literal) → List ℕ → FileFormTree
     as_number : List ℕ → FileFormTree
     as_object : FormFields → FileFormTree
     as_tagged : FormFields → FileFormTree
@@ -44,9 +56,11 @@ abbrev mutual
   pub type_of : FileFormTree → TyTree
   type_of (as_literal l) = ty_unit
   type_of as_bool = ty_bool
+  type_of (as_truths f t) = ty_bool
   type_of (as_int z) = ty_int z
   type_of (as_text s) = ty_text s
   type_of (as_enum ms n) = ty_enum ms n
+  type_of (as_words ws n) = ty_enum (word_names ws) n
   type_of (as_number s) = ty_text s
   type_of (as_object fs) = ty_rec (types_of fs)
   type_of (as_tagged fs) = ty_alt (types_of fs)
@@ -62,9 +76,11 @@ abbrev mutual
 abbrev pub file_form_step : FileForm-F FileFormTree → FileFormTree
 file_form_step (FileForm-F.Literal l) = as_literal l
 file_form_step FileForm-F.Bool = as_bool
+file_form_step (FileForm-F.Truths f t) = as_truths f t
 file_form_step (FileForm-F.Int z) = as_int z
 file_form_step (FileForm-F.Text s) = as_text s
 file_form_step (FileForm-F.Enum ms n) = as_enum ms n
+file_form_step (FileForm-F.Words ws n) = as_words ws.items n
 file_form_step (FileForm-F.Number s) = as_number s
 file_form_step (FileForm-F.Object fs) = as_object (form_fields_of fs.items)
 file_form_step (FileForm-F.Tagged fs) = as_tagged (form_fields_of fs.items)

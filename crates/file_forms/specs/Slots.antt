@@ -1,11 +1,13 @@
 -- A slot is what may stand in the place of a member: nothing, or a tree. `takes` says which slots begin as a form
 -- writes them; no slot does so for two tags of a form that `are_told_apart`.
-use Rattle.std.specs.Prelude.{ℕ, Bool, true, false, ◌&&◌, ◌||◌, not, bytes_eq, nat_eq, Option, Some, None}
+use Rattle.std.specs.Prelude.{ℕ, Bool, true, false, ◌&&◌, ◌||◌, not, bytes_eq, nat_eq, List, [], ◌∷◌, Option, Some}
+use Rattle.std.specs.Prelude.{None}
 use Rattle.json.specs.Json.{Json, null, boolean, number, string, array, object}
 use Rattle.file_forms.specs.declared.literal.Literal.{Literal}
 use Rattle.file_forms.specs.declared.literal.Literal.TheVariants.{Gone, Null, Bool as Truth, Number, Text}
-use Rattle.file_forms.specs.Forms.{FileFormTree, as_literal, as_bool, as_int, as_text, as_enum, as_number, as_object}
-use Rattle.file_forms.specs.Forms.{as_tagged, as_bare, as_items, as_map, FormFields, no_forms, more_forms}
+use Rattle.file_forms.specs.Forms.{FileFormTree, as_literal, as_bool, as_truths, as_int, as_text, as_enum, as_words}
+use Rattle.file_forms.specs.Forms.{as_number, as_object, as_tagged, as_bare, as_items, as_map, FormFields, no_forms}
+use Rattle.file_forms.specs.Forms.{more_forms, word_literals}
 
 -- what a literal stands for
 abbrev pub literal_slot : Literal → Option Json
@@ -28,6 +30,11 @@ is_literal (Truth a) (Some (boolean b)) = same_truth a b
 is_literal (Number r) (Some (number s)) = bytes_eq r s
 is_literal (Text r) (Some (string s)) = bytes_eq r s
 is_literal _ _ = false
+
+-- a slot is what one of the literals stands for
+abbrev pub is_any : List Literal → Option Json → Bool
+is_any [] s = false
+is_any (l ∷ ls) s = is_literal l s || is_any ls s
 
 -- the sorts of slots: truth values, numbers, strings, arrays, objects, and the others, which only a literal takes
 pub data Sort : Type 0 where
@@ -68,13 +75,15 @@ abbrev pub has_sign : Sign → Option Json → Bool
 has_sign (exactly l) s = is_literal l s
 has_sign (any_of t) s = same_sort t (sort_of s)
 
--- the sign of a form other than `as_bare`
+-- the sign of a form that has one alone: `as_bare`, `as_truths` and `as_words` have others
 abbrev pub sign : FileFormTree → Sign
 sign (as_literal l) = exactly l
 sign as_bool = any_of truths
+sign (as_truths f t) = any_of others
 sign (as_int z) = any_of numbers
 sign (as_text s) = any_of strings
 sign (as_enum ms n) = any_of strings
+sign (as_words ws n) = any_of others
 sign (as_number s) = any_of numbers
 sign (as_object fs) = any_of objects
 sign (as_tagged fs) = any_of objects
@@ -82,9 +91,12 @@ sign (as_bare fs) = any_of others
 sign (as_items f) = any_of arrays
 sign (as_map f) = any_of objects
 
--- the slot begins as the form writes it: contents that are written alone have the signs of all their tags
+-- the slot begins as the form writes it: contents that are written alone have the signs of all their tags, and what has
+-- several literals is one of them
 abbrev mutual
   pub takes : FileFormTree → Option Json → Bool
+  takes (as_truths f t) s = is_any (f ∷ t ∷ []) s
+  takes (as_words ws n) s = is_any (word_literals ws) s
   takes (as_bare fs) s = any_takes fs s
   takes f s = has_sign (sign f) s
 
@@ -99,9 +111,16 @@ clash (exactly l) (any_of t) = same_sort t (sort_of (literal_slot l))
 clash (any_of t) (exactly m) = same_sort t (sort_of (literal_slot m))
 clash (any_of t) (any_of u) = same_sort t u
 
+-- some slot with the sign may be one of the literals
+abbrev pub sign_meets_literals : Sign → List Literal → Bool
+sign_meets_literals g [] = false
+sign_meets_literals g (l ∷ ls) = clash g (exactly l) || sign_meets_literals g ls
+
 -- some slot with the sign may be taken by the form, or by one of the forms
 abbrev mutual
   pub sign_meets : Sign → FileFormTree → Bool
+  sign_meets g (as_truths f t) = sign_meets_literals g (f ∷ t ∷ [])
+  sign_meets g (as_words ws n) = sign_meets_literals g (word_literals ws)
   sign_meets g (as_bare fs) = sign_meets_any g fs
   sign_meets g f = clash g (sign f)
 
@@ -109,9 +128,16 @@ abbrev mutual
   sign_meets_any g no_forms = false
   sign_meets_any g (more_forms n f fs) = sign_meets g f || sign_meets_any g fs
 
+-- one of the literals may be taken by one of the fields
+abbrev pub some_literal_meets : List Literal → FormFields → Bool
+some_literal_meets [] fs = false
+some_literal_meets (l ∷ ls) fs = sign_meets_any (exactly l) fs || some_literal_meets ls fs
+
 -- some slot may be taken by the form and by one of the fields
 abbrev mutual
   pub meets_any : FileFormTree → FormFields → Bool
+  meets_any (as_truths f t) fs = some_literal_meets (f ∷ t ∷ []) fs
+  meets_any (as_words ws n) fs = some_literal_meets (word_literals ws) fs
   meets_any (as_bare gs) fs = some_meets_any gs fs
   meets_any f fs = sign_meets_any (sign f) fs
 

@@ -1,20 +1,23 @@
 //! Where a form is not fit, and why.
 
-ghost use Rattle.std.specs.Prelude.{◌≡◌, IfOk, option_map};
+ghost use Rattle.std.specs.Prelude.{◌≡◌, [], ◌∷◌, IfOk, option_map};
 ghost use Rattle.texts.specs.Keys.{has_name};
-ghost use Rattle.file_forms.specs.Forms.{as_bare, file_form_tree, forms_view, form_names};
+ghost use Rattle.file_forms.specs.Forms.{as_bare, file_form_tree, forms_view, form_names, word_literals};
 ghost use Rattle.file_forms.specs.Signs.{sign_view};
 ghost use Rattle.file_forms.specs.Slots.{sign_meets, sign_meets_any, meets_any, some_meets_any};
-ghost use Rattle.file_forms.specs.Fitting.{is_writable};
+ghost use Rattle.file_forms.specs.Slots.{some_literal_meets};
 ghost use Rattle.file_forms.specs.Misfits.{misfit_view, inside, at_field, literal_misfit, out_of_order, tag_twice};
-ghost use Rattle.file_forms.specs.Misfits.{same_slot, own_misfit, first_misfit, part_misfit};
+ghost use Rattle.file_forms.specs.Misfits.{same_slot, own_misfit, first_misfit, part_misfit, truths_misfit};
+ghost use Rattle.file_forms.specs.Misfits.{words_misfit};
 ghost use Rattle.file_forms.specs.declared.misfit.FormStep.TheVariants.{Inside};
 
 use crate::form::FileForm;
 use crate::literal::Literal;
 use crate::misfit::{FormFault, FormMisfit, FormStep};
 use crate::sign::{Sign, clash, sign_of};
-use json::is_number;
+use crate::words::{
+    is_writable, member_twice, not_writable, same_literal, sign_meets_truths, sign_meets_words,
+};
 use std::alloc::{AllocError, Global};
 use texts::{Name, Twin};
 
@@ -29,9 +32,11 @@ pub(crate) fn first_misfit(alloc: Global, form: &FileForm) -> Result<Option<Form
     match form {
         FileForm::Literal(_) => Ok(None),
         FileForm::Bool => Ok(None),
+        FileForm::Truths(_, _) => Ok(None),
         FileForm::Int(_) => Ok(None),
         FileForm::Text(_) => Ok(None),
         FileForm::Enum(_, _) => Ok(None),
+        FileForm::Words(_, _) => Ok(None),
         FileForm::Number(_) => Ok(None),
         FileForm::Object(fields) => part_misfit(alloc, fields),
         FileForm::Tagged(tags) => part_misfit(alloc, tags),
@@ -76,9 +81,11 @@ fn own_misfit(alloc: Global, form: &FileForm) -> Result<Option<FormMisfit>, Allo
     match form {
         FileForm::Literal(literal) => Ok(literal_misfit(alloc, is_writable(literal))),
         FileForm::Bool => Ok(None),
+        FileForm::Truths(no, yes) => Ok(truths_misfit(alloc, no, yes)),
         FileForm::Int(_) => Ok(None),
         FileForm::Text(_) => Ok(None),
         FileForm::Enum(_, _) => Ok(None),
+        FileForm::Words(words, _) => words_misfit(alloc, words.as_slice()),
         FileForm::Number(_) => Ok(None),
         FileForm::Object(fields) => {
             at_field(
@@ -103,7 +110,31 @@ fn bare_misfit(alloc: Global, tags: &[(Name, FileForm)]) -> Result<Option<FormMi
     }
 }
 
-// The misfit at a field or a tag, if there is one.
+fn truths_misfit(alloc: Global, no: &Literal, yes: &Literal) -> Option<FormMisfit>
+    ensures { option_map misfit_view result ≡ truths_misfit no.now yes.now }
+{
+    if yes.is_same(no) {
+        return Some(FormMisfit {
+            place: Vec::new(alloc),
+            fault: FormFault::SameLiteral,
+        });
+    }
+    literal_misfit(alloc, is_writable(no) && is_writable(yes))
+}
+
+fn words_misfit(alloc: Global, words: &[(Name, Literal)]) -> Result<Option<FormMisfit>, AllocError>
+    ensures { IfOk result (λ misfit. option_map misfit_view misfit ≡ words_misfit words.now) }
+{
+    if let Some(misfit) = at_field(alloc, FormFault::MemberTwice, member_twice(words))? {
+        return Ok(Some(misfit));
+    }
+    match at_field(alloc, FormFault::SameLiteral, same_literal(words))? {
+        Some(misfit) => Ok(Some(misfit)),
+        None => at_field(alloc, FormFault::NotANumber, not_writable(words)),
+    }
+}
+
+// The misfit at a field, a tag or a member, if there is one.
 fn at_field(
     alloc: Global,
     fault: FormFault,
@@ -120,18 +151,6 @@ fn at_field(
         place: vec![in alloc; step]?,
         fault,
     }))
-}
-
-fn is_writable(literal: &Literal) -> bool
-    ensures { result ≡ is_writable literal.now }
-{
-    match literal {
-        Literal::Gone => true,
-        Literal::Null => true,
-        Literal::Bool(_) => true,
-        Literal::Number(text) => is_number(text.as_str()),
-        Literal::Text(_) => true,
-    }
 }
 
 fn literal_misfit(alloc: Global, writable: bool) -> Option<FormMisfit>
@@ -200,6 +219,10 @@ fn meets_any(form: &FileForm, others: &[(Name, FileForm)]) -> bool
 {
     if let FileForm::Bare(tags) = form {
         some_meets_any(tags, others)
+    } else if let FileForm::Truths(no, yes) = form {
+        some_truth_meets(no, yes, others)
+    } else if let FileForm::Words(words, _) = form {
+        some_word_meets(words, others)
     } else {
         sign_meets_any(&sign_of(form), others)
     }
@@ -211,6 +234,28 @@ fn some_meets_any(tags: &Vec<(Name, FileForm)>, others: &[(Name, FileForm)]) -> 
 {
     for tag in tags {
         if meets_any(&tag.1, others) {
+            return true;
+        }
+    }
+    false
+}
+
+// Whether one of the forms may take the literal of false or of true.
+fn some_truth_meets(no: &Literal, yes: &Literal, others: &[(Name, FileForm)]) -> bool
+    ensures { result ≡ some_literal_meets (no.now ∷ yes.now ∷ []) (forms_view others.now) }
+{
+    if sign_meets_any(&Sign::Exactly(no), others) {
+        return true;
+    }
+    sign_meets_any(&Sign::Exactly(yes), others)
+}
+
+// Whether one of the forms may take the literal of a member.
+fn some_word_meets(words: &Vec<(Name, Literal)>, others: &[(Name, FileForm)]) -> bool
+    ensures { result ≡ some_literal_meets (word_literals words.now.items) (forms_view others.now) }
+{
+    for word in words {
+        if sign_meets_any(&Sign::Exactly(&word.1), others) {
             return true;
         }
     }
@@ -235,6 +280,10 @@ fn sign_meets(own: &Sign<'_>, other: &FileForm) -> bool
 {
     if let FileForm::Bare(tags) = other {
         sign_meets_tags(own, tags)
+    } else if let FileForm::Truths(no, yes) = other {
+        sign_meets_truths(own, no, yes)
+    } else if let FileForm::Words(words, _) = other {
+        sign_meets_words(own, words.as_slice())
     } else {
         clash(own, &sign_of(other))
     }

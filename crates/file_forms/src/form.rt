@@ -19,12 +19,16 @@ pub enum FileForm {
     Literal(Literal),
     /// A bool.
     Bool,
+    /// A bool as one of two literals: that of false, and that of true.
+    Truths(Literal, Literal),
     /// A whole number, with the initial one.
     Int(i64),
     /// A text, with the initial one.
     Text(Str),
     /// A member of an enum as a string, with the initial one.
     Enum(Names, Name),
+    /// A member of an enum as a literal: each member with its own, and the initial member.
+    Words(Vec<(Name, Literal)>, Name),
     /// A text as a number that has it as its letters, with the initial one.
     Number(Str),
     /// A record as an object: a member for each field that is there.
@@ -42,9 +46,10 @@ pub enum FileForm {
 impl FileForm {
     /// Where the form is not fit, and why; none if it is fit.
     ///
-    /// A form is fit if three things hold in all its parts. The fields of a record rise by bytes. Tags are distinct,
-    /// and no tree could be of two tags whose content is written alone. A literal that is a number has the letters of
-    /// one. A form comes before its parts, and parts come in their order. Fails only if memory runs out.
+    /// A form is fit if four things hold in all its parts. The fields of a record rise by bytes. Tags are distinct,
+    /// and no tree could be of two tags whose content is written alone. Members of an enum are distinct, and so are
+    /// their literals, and those of false and true. A literal that is a number has the letters of one. A form comes
+    /// before its parts, and parts come in their order. Fails only if memory runs out.
     pub fn misfit(&self, alloc: Global) -> Result<Option<FormMisfit>, AllocError>
         ensures first { IfOk result (λ misfit. option_map misfit_view misfit
             ≡ first_misfit (file_form_tree self.now)) }

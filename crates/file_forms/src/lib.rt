@@ -8,6 +8,7 @@ mod literal;
 mod misfit;
 mod sign;
 mod sort;
+mod words;
 
 pub use crate::form::FileForm;
 pub use crate::literal::Literal;

@@ -15,6 +15,10 @@ pub enum FormFault {
     TagTwice,
     /// A content that is written alone may look like that of a later tag.
     SameSlot,
+    /// A member of an enum comes again.
+    MemberTwice,
+    /// A literal of a member is also that of a later one, or false and true have one literal.
+    SameLiteral,
     /// A literal is a number, and its letters are not those of a number of JSON.
     NotANumber,
 }
@@ -22,7 +26,7 @@ pub enum FormFault {
 /// A step from a form to a part of it.
 #[derive(Debug, Drop)]
 pub enum FormStep {
-    /// To a field of a record, or to a tag.
+    /// To a field of a record, to a tag, or to a member of an enum.
     Named(Name),
     /// To the contents of a list or of a keyed map.
     Inside,

@@ -16,16 +16,18 @@ pub(crate) enum Sign<'a> {
     AnyOf(Sort),
 }
 
-// The sign of a form other than `Bare`.
+// The sign of a form that has one alone: not of `Bare`, `Truths` and `Words`.
 pub(crate) fn sign_of(form: &FileForm) -> Sign<'_>
     ensures { sign_view result ≡ sign (file_form_tree form.now) }
 {
     match form {
         FileForm::Literal(literal) => Sign::Exactly(literal),
         FileForm::Bool => Sign::AnyOf(Sort::Truths),
+        FileForm::Truths(_, _) => Sign::AnyOf(Sort::Others),
         FileForm::Int(_) => Sign::AnyOf(Sort::Numbers),
         FileForm::Text(_) => Sign::AnyOf(Sort::Strings),
         FileForm::Enum(_, _) => Sign::AnyOf(Sort::Strings),
+        FileForm::Words(_, _) => Sign::AnyOf(Sort::Others),
         FileForm::Number(_) => Sign::AnyOf(Sort::Numbers),
         FileForm::Object(_) => Sign::AnyOf(Sort::Objects),
         FileForm::Tagged(_) => Sign::AnyOf(Sort::Objects),

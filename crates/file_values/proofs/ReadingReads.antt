@@ -13,13 +13,13 @@ use Rattle.texts.proofs.Conjunction.{first as left, second as right}
 use Rattle.texts.proofs.KeyOrder.{bytes_eq-refl, before-differs, rising-first}
 use Rattle.hold_shapes.specs.declared.shape.Shape.TheVariants.{Keyed as KeyedOf}
 use Rattle.doc_values.specs.Types.{are_distinct}
-use Rattle.doc_values.specs.Documents.{DocTree, unit, int, text, pick, rec, alt, hold, DocTrees, more_docs}
-use Rattle.file_forms.specs.Forms.{FileFormTree, as_literal, as_bool, as_int, as_text, as_enum, as_number, as_object, as_tagged, as_bare, as_items, as_map, FormFields, no_forms, more_forms, form_names}
+use Rattle.doc_values.specs.Documents.{DocTree, unit, truth, int, text, pick, rec, alt, hold, DocTrees, more_docs}
+use Rattle.file_forms.specs.Forms.{FileFormTree, as_literal, as_bool, as_truths, as_int, as_text, as_enum, as_words, as_number, as_object, as_tagged, as_bare, as_items, as_map, FormFields, no_forms, more_forms, form_names}
 use Rattle.file_forms.specs.Orders.{put, by_name, first_named}
 use Rattle.file_forms.specs.Slots.{is_literal, takes, are_told_apart}
 use Rattle.file_forms.specs.Fitting.{is_fit, are_fit}
 use Rattle.file_forms.specs.Numbers.{is_number}
-use Rattle.file_forms.specs.FileValues.{int_text, listed_doc, keyed_doc, items_read, members_read, only_read, read, read_tag, read_bare}
+use Rattle.file_forms.specs.FileValues.{truth_of, word_of, int_text, listed_doc, keyed_doc, items_read, members_read, only_read, read, read_tag, read_bare}
 use Rattle.file_forms.proofs.Sorting.{by_name-is_rising}
 use Rattle.file_values.specs.declared.misfit.ReadCause.{ReadCause}
 use Rattle.file_values.specs.declared.misfit.FileStep.{FileStep}
@@ -161,12 +161,14 @@ mutual
   agrees (as_literal l) s k = ok_if (is_literal l s) unit _
   agrees as_bool (Some (boolean b)) k = refl
   agrees as_bool s k = refl
+  agrees (as_truths f t) s k = ok_some _ (option_map truth (truth_of f t s))
   agrees (as_int i) (Some (number t)) k = ok_some _ (option_map int (int_text t))
   agrees (as_int i) s k = refl
   agrees (as_text i) (Some (string t)) k = refl
   agrees (as_text i) s k = refl
   agrees (as_enum ms i) (Some (string t)) k = ok_if (has_name t ms) (pick t) _
   agrees (as_enum ms i) s k = refl
+  agrees (as_words ws i) s k = ok_some _ (option_map pick (word_of ws s))
   agrees (as_number i) (Some (number t)) k = ok_if (is_number t) (text t) _
   agrees (as_number i) s k = refl
   agrees (as_object fs) (Some (object ms)) k =

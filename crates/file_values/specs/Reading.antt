@@ -12,12 +12,13 @@ use Rattle.doc_values.specs.Documents.{DocTree, unit, truth, int, text, pick, re
 use Rattle.doc_values.specs.Documents.{more_docs}
 use Rattle.file_trees.specs.FileTrees.{file_tree}
 use Rattle.file_trees.specs.declared.tree.FileTree.{FileTree}
-use Rattle.file_forms.specs.Forms.{FileFormTree, as_literal, as_bool, as_int, as_text, as_enum, as_number, as_object}
-use Rattle.file_forms.specs.Forms.{as_tagged, as_bare, as_items, as_map, FormFields, no_forms, more_forms, form_names}
+use Rattle.file_forms.specs.Forms.{FileFormTree, as_literal, as_bool, as_truths, as_int, as_text, as_enum, as_words}
+use Rattle.file_forms.specs.Forms.{as_number, as_object, as_tagged, as_bare, as_items, as_map, FormFields, no_forms}
+use Rattle.file_forms.specs.Forms.{more_forms, form_names}
 use Rattle.file_forms.specs.Numbers.{is_number}
 use Rattle.file_forms.specs.Orders.{by_name, first_named}
 use Rattle.file_forms.specs.Slots.{is_literal, takes}
-use Rattle.file_forms.specs.FileValues.{int_text, listed_doc}
+use Rattle.file_forms.specs.FileValues.{truth_of, word_of, int_text, listed_doc}
 use Rattle.file_values.specs.declared.misfit.ReadCause.{ReadCause}
 use Rattle.file_values.specs.declared.misfit.ReadCause.TheVariants.{Missing, OtherSort, OtherLiteral, NotAnInt}
 use Rattle.file_values.specs.declared.misfit.ReadCause.TheVariants.{NotANumber, NotAMember, NoField, NotOneTag, NoTag}
@@ -145,9 +146,11 @@ abbrev mutual
   pub reading : FileFormTree → Option Json → Result DocTree Misfit
   reading (as_literal l) s = if is_literal l s then Ok unit else not_so OtherLiteral
   reading as_bool s = map_ok truth (truth_in s)
+  reading (as_truths f t) s = ok_or OtherLiteral (option_map truth (truth_of f t s))
   reading (as_int i) s = and_then (λ t. ok_or NotAnInt (option_map int (int_text t))) (number_in s)
   reading (as_text i) s = map_ok text (string_in s)
   reading (as_enum ms i) s = and_then (pick_in ms) (string_in s)
+  reading (as_words ws i) s = ok_or NotAMember (option_map pick (word_of ws s))
   reading (as_number i) s = and_then number_text (number_in s)
   reading (as_object fs) s = map_ok rec (and_then (fields_reading fs) (known_members (form_names fs) s))
   reading (as_tagged fs) s = and_then (λ ms. one_reading (tag_reading fs) (one_member ms)) (members_in s)

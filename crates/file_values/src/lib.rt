@@ -7,6 +7,7 @@ mod members;
 mod misfit;
 mod read;
 mod slots;
+mod words;
 mod write;
 
 pub use crate::fault::WriteFault;

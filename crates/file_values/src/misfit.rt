@@ -15,13 +15,13 @@ pub enum ReadCause {
     Missing,
     /// Another sort of JSON is there.
     OtherSort,
-    /// Something else than the literal is there.
+    /// Something else than the literal is there, or than that of false or of true.
     OtherLiteral,
     /// The number is not an i64 as it is written in decimal digits.
     NotAnInt,
     /// The letters of a number are not those of one.
     NotANumber,
-    /// The string is not a member of the enum.
+    /// A member of the enum is not written so.
     NotAMember,
     /// No field of the record has this member.
     NoField,

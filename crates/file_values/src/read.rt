@@ -6,7 +6,8 @@ ghost use Rattle.texts.specs.Keys.{is_rising};
 ghost use Rattle.hold_shapes.specs.declared.shape.Shape.TheVariants.{Keyed as KeyedOf};
 ghost use Rattle.doc_values.specs.Documents.{DocTree, alt, hold, doc_tree, docs_tree};
 ghost use Rattle.file_trees.specs.FileTrees.{file_tree, items_view, members_view};
-ghost use Rattle.file_forms.specs.Forms.{as_literal, as_int, as_text, as_enum, as_number, as_bare};
+ghost use Rattle.file_forms.specs.Forms.{as_literal, as_truths, as_int, as_text, as_enum, as_words, as_number};
+ghost use Rattle.file_forms.specs.Forms.{as_bare};
 ghost use Rattle.file_forms.specs.Forms.{file_form_tree, forms_view};
 ghost use Rattle.file_forms.specs.Orders.{sorted};
 ghost use Rattle.file_forms.specs.Fitting.{is_fit};
@@ -19,6 +20,7 @@ ghost use Rattle.file_values.specs.declared.misfit.FileStep.TheVariants.{Member,
 use crate::members::{by_name, first_named, known_members, names_of, one_member};
 use crate::misfit::{ReadCause, ReadFault};
 use crate::slots::{is_literal, items_in, members_in, number_in, string_in, takes, truth_in};
+use crate::words::{truth_of, word_of};
 use doc_values::{Doc, Docs, has_text};
 use file_forms::{FileForm, Literal};
 use file_trees::FileTree;
@@ -53,9 +55,11 @@ fn read(alloc: Global, form: &FileForm, slot: Option<&FileTree>) -> Result<Doc, 
     match form {
         FileForm::Literal(literal) => read_literal(alloc, literal, slot),
         FileForm::Bool => Ok(Doc::Bool(truth_in(alloc, slot)?)),
+        FileForm::Truths(no, yes) => read_truth(alloc, no, yes, slot),
         FileForm::Int(_) => read_int(alloc, slot),
         FileForm::Text(_) => read_text(alloc, slot),
         FileForm::Enum(members, _) => read_pick(alloc, members, slot),
+        FileForm::Words(words, _) => read_word(alloc, words.as_slice(), slot),
         FileForm::Number(_) => read_number(alloc, slot),
         FileForm::Object(fields) => {
             let members = known_members(alloc, fields.as_slice(), slot)?;
@@ -75,6 +79,20 @@ fn read_literal(alloc: Global, literal: &Literal, slot: Option<&FileTree>) -> Re
         Ok(Doc::Unit)
     } else {
         Err(ReadFault::here(alloc, ReadCause::OtherLiteral))
+    }
+}
+
+fn read_truth(
+    alloc: Global,
+    no: &Literal,
+    yes: &Literal,
+    slot: Option<&FileTree>,
+) -> Result<Doc, ReadFault>
+    ensures { Reads doc_tree result (reading (as_truths no.now yes.now) (slot_of slot.entry)) }
+{
+    match truth_of(no, yes, slot) {
+        Some(truth) => Ok(Doc::Bool(truth)),
+        None => Err(ReadFault::here(alloc, ReadCause::OtherLiteral)),
     }
 }
 
@@ -119,6 +137,19 @@ fn read_pick(alloc: Global, members: &Names, slot: Option<&FileTree>) -> Result<
     }
     let member = String::from_str(alloc, text.as_str())?;
     Ok(Doc::Pick(Name::from_string(member)))
+}
+
+fn read_word(
+    alloc: Global,
+    words: &[(Name, Literal)],
+    slot: Option<&FileTree>,
+) -> Result<Doc, ReadFault>
+    ensures { (initial : List ℕ) → Reads doc_tree result (reading (as_words words.now initial) (slot_of slot.entry)) }
+{
+    match word_of(words, slot) {
+        Some(name) => Ok(Doc::Pick(name.twin(alloc)?)),
+        None => Err(ReadFault::here(alloc, ReadCause::NotAMember)),
+    }
 }
 
 fn read_number(alloc: Global, slot: Option<&FileTree>) -> Result<Doc, ReadFault>

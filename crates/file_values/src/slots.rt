@@ -9,6 +9,7 @@ ghost use Rattle.file_forms.specs.declared.literal.Literal.TheVariants.{Null, Bo
 ghost use Rattle.file_values.specs.Reading.{Reads, slot_of, truth_in, number_in, string_in, items_in, members_in};
 
 use crate::misfit::{ReadCause, ReadFault};
+use crate::words::{is_one, is_word};
 use file_forms::{FileForm, Literal, Sort};
 use file_trees::FileTree;
 use std::alloc::Global;
@@ -180,9 +181,11 @@ pub(crate) fn takes(form: &FileForm, slot: Option<&FileTree>) -> bool
     match form {
         FileForm::Literal(literal) => is_literal(literal, slot),
         FileForm::Bool => Sort::Truths.is_same(sort_of(slot)),
+        FileForm::Truths(no, yes) => is_one(no, yes, slot),
         FileForm::Int(_) => Sort::Numbers.is_same(sort_of(slot)),
         FileForm::Text(_) => Sort::Strings.is_same(sort_of(slot)),
         FileForm::Enum(_, _) => Sort::Strings.is_same(sort_of(slot)),
+        FileForm::Words(words, _) => is_word(words.as_slice(), slot),
         FileForm::Number(_) => Sort::Numbers.is_same(sort_of(slot)),
         FileForm::Object(_) => Sort::Objects.is_same(sort_of(slot)),
         FileForm::Tagged(_) => Sort::Objects.is_same(sort_of(slot)),

@@ -13,11 +13,12 @@ ghost use Rattle.file_forms.specs.Forms.{as_items, as_map, file_form_tree, forms
 ghost use Rattle.file_forms.specs.Fitting.{is_fit};
 ghost use Rattle.file_forms.specs.Numbers.{is_number};
 ghost use Rattle.file_forms.specs.Slots.{literal_slot};
-ghost use Rattle.file_forms.specs.FileValues.{read, write, write_fields, write_tag, with_slot};
+ghost use Rattle.file_forms.specs.FileValues.{read, write, write_fields, write_tag, with_slot, word_slot};
 ghost use Rattle.file_forms.specs.FileValues.{object_slot, tagged_slot};
 ghost use Rattle.file_values.specs.Writing.{Writes, slot_view, then_members};
 
 use crate::fault::WriteFault;
+use crate::words::{truth_literal, word_literal};
 use doc_values::{Doc, Docs, is_list_of};
 use file_forms::{FileForm, Literal};
 use file_trees::FileTree;
@@ -60,9 +61,13 @@ fn write(alloc: Global, form: &FileForm, doc: &Doc) -> Result<Option<FileTree>, 
     match (form, doc) {
         (FileForm::Literal(literal), Doc::Unit) => Ok(write_literal(alloc, literal)?),
         (FileForm::Bool, Doc::Bool(truth)) => Ok(Some(FileTree::Bool(*truth))),
+        (FileForm::Truths(no, yes), Doc::Bool(truth)) => {
+            Ok(write_literal(alloc, truth_literal(no, yes, *truth))?)
+        }
         (FileForm::Int(_), Doc::Int(value)) => Ok(write_int(alloc, *value)?),
         (FileForm::Text(_), Doc::Text(text)) => Ok(Some(FileTree::Text(text.twin(alloc)?))),
         (FileForm::Enum(members, _), Doc::Pick(name)) => write_pick(alloc, members, name),
+        (FileForm::Words(words, _), Doc::Pick(name)) => write_word(alloc, words.as_slice(), name),
         (FileForm::Number(_), Doc::Text(text)) => write_number(alloc, text),
         (FileForm::Object(fields), Doc::Rec(docs)) => write_object(alloc, fields, docs),
         (FileForm::Tagged(tags), Doc::Alt(tag, content)) => {
@@ -105,6 +110,19 @@ fn write_pick(alloc: Global, members: &Names, name: &Name) -> Result<Option<File
     }
     let text = String::from_str(alloc, name.as_str())?;
     Ok(Some(FileTree::Text(Str::from_string(text))))
+}
+
+fn write_word(
+    alloc: Global,
+    words: &[(Name, Literal)],
+    name: &Name,
+) -> Result<Option<FileTree>, WriteFault>
+    ensures { Writes slot_view result (word_slot words.now name.now) }
+{
+    match word_literal(words, name) {
+        Some(literal) => Ok(write_literal(alloc, literal)?),
+        None => Err(WriteFault::NoFile),
+    }
 }
 
 fn write_number(alloc: Global, letters: &Str) -> Result<Option<FileTree>, WriteFault>

@@ -1,9 +1,9 @@
 -- The payloads that are kept, as a loop goes over all.
-use Rattle.std.proofs.Common.{◌≡◌, ℕ, zero, suc, ◌+◌, ◌-◌, ◌<◌, add-one, Bool, true, false, ◌||◌, cond, List, [], ◌∷◌}
-use Rattle.std.proofs.Common.{◌++◌, append_assoc, length, drop, drop-cons, get_or, refl, sym, ap, ap₂, ◌∙◌, arith}
+use Rattle.std.proofs.Common.{◌≡◌, ℕ, suc, ◌+◌, ◌-◌, ◌<◌, add-one, Bool, true, false, ◌||◌, cond, List, [], ◌∷◌}
+use Rattle.std.proofs.Common.{◌++◌, append_assoc, length, drop, drop-cons, get_or, refl, sym, ap, ◌∙◌, arith}
 use Rattle.std.proofs.lemmas.Bool.{ltb-false, ltb-true}
 use Rattle.std.specs.Prelude.{nat_lt}
-use Rattle.hub_copy.specs.KeptRecords.{adds_view, added_views, kept_records}
+use Rattle.hub_copy.specs.KeptRecords.{adds_view, kept_records}
 
 -- the others, behind a payload that may be kept
 abbrev if_kept : Bool → List ℕ → List (List ℕ) → List (List ℕ)

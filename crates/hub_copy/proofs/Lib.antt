@@ -1,1 +1,3 @@
 pub mod KeptLoop
+pub mod KeptStand
+pub mod LaterViews

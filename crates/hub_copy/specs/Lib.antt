@@ -1,3 +1,1 @@
 pub mod KeptRecords
-pub mod KeptStand
-pub mod LaterViews

@@ -1,6 +1,6 @@
 -- A snapshot behind what the store of a hub keeps stands for its state, and that of an earlier state for that one.
 -- Lemmas, which stand here since the laws of an `impl` cite them.
-use Rattle.std.proofs.Common.{◌≡◌, ℕ, ◌<◌, List, [], ◌∷◌, ◌++◌, take, Option, Some, None, Result, Ok, Err, refl, sym}
+use Rattle.std.proofs.Common.{◌≡◌, ℕ, ◌<◌, List, [], ◌∷◌, ◌++◌, Option, Some, None, Result, Ok, Err, sym}
 use Rattle.std.proofs.Common.{ap, subst, ◌∙◌, arith}
 use Rattle.edit_journal.specs.EntryJson.{tree_of_text}
 use Rattle.lens_forms.specs.Forms.{FormTree}
@@ -16,7 +16,7 @@ use Rattle.hub_session.specs.HubStates.{HasHubSnapshot, hub_changes_counted, hub
 use Rattle.hub_session.specs.HubStates.{hub_snapshot_text, hub_stands_for, state_of_hub}
 use Rattle.hub_session.specs.PayloadLaws.{Stood, stood}
 use Rattle.hub_copy.specs.KeptRecords.{KeepsViews, kept_records}
-use Rattle.hub_copy.specs.KeptStand.{first_count, kept_stand}
+use Rattle.hub_copy.proofs.KeptStand.{first_count, kept_stand}
 
 -- ---- a snapshot behind payloads that have the lenses of its state
 

@@ -18,6 +18,14 @@ fn list_ty(alloc: Global) -> Result<Ty, Fail> {
     Ok(Ty::List(Box::new(alloc, Ty::Int(0))?))
 }
 
+fn keyed_ty(alloc: Global) -> Result<Ty, Fail> {
+    Ok(Ty::Keyed(Box::new(alloc, Ty::Int(0))?))
+}
+
+fn lines_ty(alloc: Global) -> Result<Ty, Fail> {
+    Ok(Ty::List(Box::new(alloc, text_ty(alloc)?)?))
+}
+
 fn tags_ty(alloc: Global) -> Result<Ty, Fail> {
     let mut tags = Vec::new(alloc);
     tags.push((name(alloc, "a")?, Ty::Int(0)))?;
@@ -31,6 +39,8 @@ fn row_ty(alloc: Global) -> Result<Ty, Fail> {
     fields.push((name(alloc, "alt")?, tags_ty(alloc)?))?;
     fields.push((name(alloc, "flag")?, Ty::Bool))?;
     fields.push((name(alloc, "items")?, list_ty(alloc)?))?;
+    fields.push((name(alloc, "keys")?, keyed_ty(alloc)?))?;
+    fields.push((name(alloc, "lines")?, lines_ty(alloc)?))?;
     fields.push((name(alloc, "n")?, Ty::Int(0)))?;
     fields.push((name(alloc, "text")?, text_ty(alloc)?))?;
     Ok(Ty::Rec(Fields::from_vec(fields)))

@@ -1,10 +1,11 @@
 //! What a word that was made for an older document is for the document after another word.
 
 /// The document that both words of a row were made for.
-pub const DOCUMENT: &str = r#"{"alt":{"a":1},"flag":false,"items":[7],"n":5,"text":"hello"}"#;
+pub const DOCUMENT: &str =
+    r#"{"alt":{"a":1},"flag":false,"items":[7,8,9],"keys":{"k":1},"lines":["ab","cd","ef"],"n":5,"text":"hello"}"#;
 
 /// The word that was accepted, the word of the row, and what this one becomes: a word, or why it is refused.
-pub const CARRIED: [(&str, &str, &str); 18] = [
+pub const CARRIED: [(&str, &str, &str); 39] = [
     (
         "[]",
         r#"[{"at":["n",[{"add":2}]]}]"#,
@@ -76,8 +77,8 @@ pub const CARRIED: [(&str, &str, &str); 18] = [
         r#"[{"at":["items",[{"mod":[0,[{"add":1}]]}]]}]"#,
     ),
     (
-        r#"[{"at":["items",[{"ins":1}]]}]"#,
-        r#"[{"at":["items",[{"mod":[0,[{"add":1}]]}]]}]"#,
+        r#"[{"at":["keys",[{"put":"m"}]]}]"#,
+        r#"[{"at":["keys",[{"mod":["k",[{"add":1}]]}]]}]"#,
         "Gone",
     ),
     (
@@ -91,4 +92,109 @@ pub const CARRIED: [(&str, &str, &str); 18] = [
         "Kind",
     ),
     (r#"[{"add":1}]"#, "[]", "no bridge"),
+    (
+        r#"[{"at":["items",[{"ins":1}]]}]"#,
+        r#"[{"at":["items",[{"mod":[0,[{"add":1}]]}]]}]"#,
+        r#"[{"at":["items",[{"mod":[0,[{"add":1}]]}]]}]"#,
+    ),
+    (
+        r#"[{"at":["items",[{"ins":1},{"move":[3,0]}]]}]"#,
+        r#"[{"at":["items",[{"mod":[0,[{"add":1}]]}]]}]"#,
+        r#"[{"at":["items",[{"mod":[1,[{"add":1}]]}]]}]"#,
+    ),
+    (
+        r#"[{"at":["items",[{"move":[0,2]}]]}]"#,
+        r#"[{"at":["items",[{"mod":[0,[{"add":1}]]},{"mod":[1,[{"add":2}]]}]]}]"#,
+        r#"[{"at":["items",[{"mod":[2,[{"add":1}]]},{"mod":[0,[{"add":2}]]}]]}]"#,
+    ),
+    (
+        r#"[{"at":["items",[{"del":1}]]}]"#,
+        r#"[{"at":["items",[{"mod":[2,[{"add":1}]]}]]}]"#,
+        "Gone",
+    ),
+    (
+        r#"[{"at":["items",[{"move":[0,2]},{"del":1}]]}]"#,
+        r#"[{"at":["items",[{"mod":[0,[{"add":1}]]}]]}]"#,
+        "Gone",
+    ),
+    (
+        r#"[{"at":["items",[{"move":[0,2]},{"del":1}]]}]"#,
+        r#"[{"at":["items",[{"mod":[1,[{"add":1}]]}]]}]"#,
+        r#"[{"at":["items",[{"mod":[0,[{"add":1}]]}]]}]"#,
+    ),
+    (
+        r#"[{"at":["items",[{"move":[0,2]},{"del":1}]]}]"#,
+        r#"[{"at":["items",[{"move":[1,2]},{"mod":[2,[{"add":1}]]}]]}]"#,
+        r#"[{"at":["items",[{"move":[0,1]},{"mod":[1,[{"add":1}]]}]]}]"#,
+    ),
+    (
+        r#"[{"at":["items",[{"del":1}]]}]"#,
+        r#"[{"at":["items",[{"del":2}]]}]"#,
+        r#"[{"at":["items",[{"del":1}]]}]"#,
+    ),
+    (
+        r#"[{"at":["items",[{"del":1}]]}]"#,
+        r#"[{"at":["items",[{"del":1}]]}]"#,
+        r#"[{"at":["items",[]]}]"#,
+    ),
+    (
+        r#"[{"at":["items",[{"ins":2}]]}]"#,
+        r#"[{"at":["items",[{"ins":1},{"move":[3,1]},{"mod":[1,[{"add":4}]]}]]}]"#,
+        r#"[{"at":["items",[{"ins":1},{"move":[5,1]},{"mod":[1,[{"add":4}]]}]]}]"#,
+    ),
+    (
+        r#"[{"at":["items",[{"reorder":[2,1,0]}]]}]"#,
+        r#"[{"at":["items",[{"mod":[0,[{"add":1}]]}]]}]"#,
+        r#"[{"at":["items",[{"mod":[2,[{"add":1}]]}]]}]"#,
+    ),
+    (
+        r#"[{"at":["items",[{"ins":1},{"move":[3,0]}]]}]"#,
+        r#"[{"at":["items",[{"reorder":[2,0,1]}]]}]"#,
+        r#"[{"at":["items",[{"reorder":[0,3,1,2]}]]}]"#,
+    ),
+    (
+        r#"[{"at":["items",[{"mod":[1,[{"add":5}]]}]]}]"#,
+        r#"[{"at":["items",[{"move":[1,0]},{"mod":[0,[{"add":1}]]}]]}]"#,
+        r#"[{"at":["items",[{"move":[1,0]},{"mod":[0,[{"add":1}]]}]]}]"#,
+    ),
+    (
+        r#"[{"at":["lines",[{"mod":[1,[{"splice":[0,0,"x"]}]]}]]}]"#,
+        r#"[{"at":["lines",[{"mod":[1,[{"splice":[2,0,"!"]}]]}]]}]"#,
+        r#"[{"at":["lines",[{"mod":[1,[{"splice":[3,0,"!"]}]]}]]}]"#,
+    ),
+    (
+        r#"[{"at":["lines",[{"mod":[1,[{"splice":[0,0,"x"]}]]}]]}]"#,
+        r#"[{"at":["lines",[{"ins":1},{"move":[3,0]},{"mod":[2,[{"splice":[2,0,"!"]}]]}]]}]"#,
+        r#"[{"at":["lines",[{"ins":1},{"move":[3,0]},{"mod":[2,[{"splice":[3,0,"!"]}]]}]]}]"#,
+    ),
+    (
+        r#"[{"at":["lines",[{"move":[1,0]},{"mod":[0,[{"splice":[0,0,"x"]}]]}]]}]"#,
+        r#"[{"at":["lines",[{"mod":[1,[{"splice":[2,0,"!"]}]]}]]}]"#,
+        r#"[{"at":["lines",[{"mod":[0,[{"splice":[3,0,"!"]}]]}]]}]"#,
+    ),
+    (
+        r#"[{"at":["lines",[{"ins":1},{"move":[3,0]},{"mod":[0,[{"set":"new"}]]}]]}]"#,
+        r#"[{"at":["lines",[{"mod":[0,[{"splice":[2,0,"!"]}]]}]]}]"#,
+        r#"[{"at":["lines",[{"mod":[1,[{"splice":[2,0,"!"]}]]}]]}]"#,
+    ),
+    (
+        r#"[{"at":["lines",[{"mod":[1,[{"set":"new"}]]}]]}]"#,
+        r#"[{"at":["lines",[{"mod":[1,[{"splice":[2,0,"!"]}]]}]]}]"#,
+        "Gone",
+    ),
+    (
+        r#"[{"at":["items",[{"ins":1}]]}]"#,
+        r#"[{"at":["items",[{"mod":[3,[{"add":1}]]}]]}]"#,
+        "Place",
+    ),
+    (
+        r#"[{"at":["items",[{"ins":1}]]}]"#,
+        r#"[{"at":["items",[{"del":4}]]}]"#,
+        "Range",
+    ),
+    (
+        r#"[{"at":["items",[{"move":[0,1]}]]}]"#,
+        r#"[{"at":["items",[{"reorder":[0,1]}]]}]"#,
+        "Length",
+    ),
 ];

@@ -170,3 +170,42 @@ fn fields_and_tags(rt: HostRuntime) -> Result<(), Fail> {
     assert!(rt; fault == FormFault::TagTwice);
     Ok(())
 }
+
+// A member of an enum with its literal, a number.
+fn word(alloc: Global, name: &str, letters: &str) -> Result<(Name, Literal), AllocError> {
+    let name = Name::from_string(String::from_str(alloc, name)?);
+    let letters = Str::from_string(String::from_str(alloc, letters)?);
+    Ok((name, Literal::Number(letters)))
+}
+
+// The form of an enum with two members as numbers.
+fn words(
+    alloc: Global,
+    first: &str,
+    one: &str,
+    second: &str,
+    other: &str,
+) -> Result<FileForm, AllocError> {
+    let one = word(alloc, first, one)?;
+    let other = word(alloc, second, other)?;
+    let initial = Name::from_string(String::from_str(alloc, first)?);
+    Ok(FileForm::Words(vec![in alloc; one, other]?, initial))
+}
+
+#[test]
+fn literals_of_members(rt: HostRuntime) -> Result<(), Fail> {
+    let alloc = rt.alloc();
+    let fit = words(alloc, "a", "1", "b", "1.0")?;
+    assert!(rt; fit.misfit(alloc)?.is_none());
+    drop(fit);
+    for (first, one, second, other, wanted, fault) in [
+        ("a", "1", "a", "2", "/a", FormFault::MemberTwice),
+        ("a", "1", "b", "1", "/a", FormFault::SameLiteral),
+        ("a", "1", "b", "1.", "/b", FormFault::NotANumber),
+    ] {
+        let (at, found) = misfit(alloc, words(alloc, first, one, second, other)?)?;
+        assert_eq!(rt; at.as_str(), wanted);
+        assert!(rt; found == fault);
+    }
+    Ok(())
+}

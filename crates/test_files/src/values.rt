@@ -158,6 +158,59 @@ fn alternatives_come_back(rt: HostRuntime) -> Result<(), Fail> {
     Ok(())
 }
 
+// A member of an enum as any literal.
+fn level(alloc: Global) -> Result<FileForm, Fail> {
+    let mut words = Vec::new(alloc);
+    words.push((
+        name(alloc, "high")?,
+        Literal::Number(letters(alloc, "1.0")?),
+    ))?;
+    words.push((name(alloc, "low")?, Literal::Number(letters(alloc, "1")?)))?;
+    words.push((name(alloc, "none")?, Literal::Null))?;
+    words.push((name(alloc, "off")?, Literal::Bool(false)))?;
+    words.push((name(alloc, "on")?, Literal::Text(letters(alloc, "yes")?)))?;
+    Ok(FileForm::Words(words, name(alloc, "low")?))
+}
+
+fn letters(alloc: Global, text: &str) -> Result<Str, AllocError> {
+    Ok(Str::from_string(String::from_str(alloc, text)?))
+}
+
+// A truth value as a number.
+fn flag(alloc: Global) -> Result<FileForm, Fail> {
+    let no = Literal::Number(letters(alloc, "0")?);
+    let yes = Literal::Number(letters(alloc, "1")?);
+    Ok(FileForm::Truths(no, yes))
+}
+
+#[test]
+fn literals_come_back(rt: HostRuntime) -> Result<(), Fail> {
+    for text in ["1.0", "1", "null", "false", "\"yes\""] {
+        let bytes = written(rt.alloc(), level(rt.alloc())?, text.as_bytes())?;
+        assert_eq!(rt; bytes.as_slice(), text.as_bytes());
+    }
+    for text in ["0", "1"] {
+        let bytes = written(rt.alloc(), flag(rt.alloc())?, text.as_bytes())?;
+        assert_eq!(rt; bytes.as_slice(), text.as_bytes());
+    }
+    Ok(())
+}
+
+#[test]
+fn other_literals(rt: HostRuntime) -> Result<(), Fail> {
+    for text in ["1.00", "10e-1", "true", "\"no\"", "[]", "{}"] {
+        let (place, found) = misfit(rt.alloc(), level(rt.alloc())?, text.as_bytes())?;
+        assert_eq!(rt; place.as_str(), "");
+        assert!(rt; found == ReadCause::NotAMember);
+    }
+    for text in ["2", "1.0", "false", "null"] {
+        let (place, found) = misfit(rt.alloc(), flag(rt.alloc())?, text.as_bytes())?;
+        assert_eq!(rt; place.as_str(), "");
+        assert!(rt; found == ReadCause::OtherLiteral);
+    }
+    Ok(())
+}
+
 #[test]
 fn misfits_of_records(rt: HostRuntime) -> Result<(), Fail> {
     for (text, at, cause) in [

@@ -24,6 +24,12 @@ decreases-at_field l = 8 * word_depth (word_tree l.word.now) + 3
 abbrev pub decreases-at_tag : goal.decreases-at_tag
 decreases-at_tag l = 8 * word_depth (word_tree l.word.now) + 3
 
+abbrev pub decreases-at_item : goal.decreases-at_item
+decreases-at_item l = 8 * word_depth (word_tree l.word.now) + 2
+
+abbrev pub decreases-at_place : goal.decreases-at_place
+decreases-at_place l = 8 * word_depth (word_tree l.word.now) + 3
+
 abbrev pub decreases-step : goal.decreases-step
 decreases-step l = 8 * primitive_depth (primitive_tree l.primitive.now) + 4
 

@@ -21,6 +21,12 @@ decreases-on_record l = 8 * primitive_depth (primitive_tree l.primitive.now) + 3
 abbrev pub decreases-on_arm : goal.decreases-on_arm
 decreases-on_arm l = 8 * primitive_depth (primitive_tree l.primitive.now) + 3
 
+abbrev pub decreases-on_item : goal.decreases-on_item
+decreases-on_item l = 8 * word_depth (word_tree l.word.now) + 2
+
+abbrev pub decreases-on_list : goal.decreases-on_list
+decreases-on_list l = 8 * primitive_depth (primitive_tree l.primitive.now) + 3
+
 abbrev pub decreases-step : goal.decreases-step
 decreases-step l = 8 * primitive_depth (primitive_tree l.primitive.now) + 4
 

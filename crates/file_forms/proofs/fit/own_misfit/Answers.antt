@@ -7,7 +7,7 @@ use Rattle.file_forms.proofs.fit.own_misfit.Goals as goal
 
 pub returns-in-Object : goal.returns-in-Object
 returns-in-Object c =
-    let name = c.out_of_order.ensures ∙ ap (λ fs. out_of_order (forms_view fs)) c.as_slice.ensures.value in
+    let name = c.out_of_order.ensures ∙ ap (λ fs. out_of_order (forms_view fs)) c.as_slice-in-Object.ensures.value in
     let form = ap file_form_tree c.in-Object.is ∙ form-Object c.in-Object.fields in
     subst (λ x. IfOk c.at_field.result (λ m. option_map misfit_view m ≡ x)) (ap (option_map (at_field FieldOrder)) name ∙ sym (ap own_misfit form)) c.at_field.ensures
 

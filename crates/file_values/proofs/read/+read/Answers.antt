@@ -1,4 +1,4 @@
-use Rattle.std.proofs.Common.{◌≡◌, ℕ, ℤ, List, [], ◌∷◌, Option, Some, Result, Ok, map, sym, ap, subst, ◌∙◌, rules}
+use Rattle.std.proofs.Common.{◌≡◌, Vec, Global, ℕ, ℤ, List, [], ◌∷◌, Option, Some, Result, Ok, map, sym, ap, subst, ◌∙◌, rules}
 use Rattle.std.proofs.lemmas.List.{map-append}
 use Rattle.std.proofs.lemmas.Result.{err_from_is_err_and}
 use Rattle.json.specs.Json.{Json}
@@ -7,9 +7,10 @@ use Rattle.hold_shapes.specs.declared.shape.Shape.TheVariants.{Keyed as KeyedOf}
 use Rattle.doc_values.specs.Documents.{DocTree, hold, doc_tree, docs_tree}
 use Rattle.doc_values.specs.declared.doc.Doc.{Doc}
 use Rattle.file_trees.specs.FileTrees.{file_tree, members_view}
+use Rattle.file_forms.specs.declared.literal.Literal.{Literal}
 use Rattle.file_forms.specs.Orders.{by_name}
-use Rattle.file_forms.specs.Forms.{FileFormTree, as_int, as_text, as_enum, as_number, form_names, file_form_tree, forms_view}
-use Rattle.file_forms.specs.declared.form.FileForm.{FileForm, Int, Text, Enum, Number, the_lemmas}
+use Rattle.file_forms.specs.Forms.{FileFormTree, as_int, as_text, as_enum, as_words, as_number, form_names, file_form_tree, forms_view}
+use Rattle.file_forms.specs.declared.form.FileForm.{FileForm, Int, Text, Enum, Words, Number, the_lemmas}
 use Rattle.file_forms.proofs.FormParts.{form-Object}
 use Rattle.file_values.specs.Reading.{Misfit, Reads, slot_of, lent_members, fault_view, map_ok, inside, known_members, members_reading, map_reading, reading}
 use Rattle.file_values.specs.declared.misfit.FileStep.TheVariants.{Member}
@@ -27,6 +28,9 @@ form-Text s = search (rules, the_lemmas)
 
 form-Enum : (ms : List (List ℕ)) (n : List ℕ) → file_form_tree (Enum ms n) ≡ as_enum ms n
 form-Enum ms n = search (rules, the_lemmas)
+
+form-Words : (ws : Vec (List ℕ × Literal) Global) (n : List ℕ) → file_form_tree (Words ws n) ≡ as_words ws.items n
+form-Words ws n = search (rules, the_lemmas)
 
 form-Number : (s : List ℕ) → file_form_tree (Number s) ≡ as_number s
 form-Number s = search (rules, the_lemmas)
@@ -50,6 +54,13 @@ read-returns-in-Enum t c =
     let n = c.in-Enum.field-1 in
     by_form c.read_pick.result c.args.form.now (as_enum ms n) (slot_of c.args.slot) (ap file_form_tree c.in-Enum.is ∙ form-Enum ms n) (c.read_pick.ensures n)
 
+pub read-returns-in-Words : goal.read-returns-in-Words
+read-returns-in-Words t c =
+    let ws = c.in-Words.words in
+    let n = c.in-Words.field-1 in
+    let same = ap (λ x. as_words x n) (sym c.as_slice.ensures.value) in
+    by_form c.read_word.result c.args.form.now (as_words c.as_slice.result.now n) (slot_of c.args.slot) (ap file_form_tree c.in-Words.is ∙ form-Words ws n ∙ same) (c.read_word.ensures n)
+
 pub read-returns-in-Number : goal.read-returns-in-Number
 read-returns-in-Number t c =
     let s = c.in-Number.field-0 in
@@ -61,8 +72,8 @@ read-returns-in_err-members-in-Object t c =
     let fields = c.in-Object.fields in
     let p = err_from_is_err_and c.from_residual-in_err-members-in-Object.result c.from_residual-in_err-members-in-Object.ensures.1 in
     rw (p.1, p.2)
-    (fails_with (fault_view c.in_err-members-in-Object.field-0.0) (known_members (form_names (forms_view c.as_slice.result.now)) s) (reading (file_form_tree c.args.form.now) s)
-    (λ m h. ap (λ f. reading f s) (ap file_form_tree c.in-Object.is ∙ form-Object fields) ∙ strangers_refused fields.items c.as_slice.result.now s m c.as_slice.ensures.value h)
+    (fails_with (fault_view c.in_err-members-in-Object.field-0.0) (known_members (form_names (forms_view c.as_slice-in-Object.result.now)) s) (reading (file_form_tree c.args.form.now) s)
+    (λ m h. ap (λ f. reading f s) (ap file_form_tree c.in-Object.is ∙ form-Object fields) ∙ strangers_refused fields.items c.as_slice-in-Object.result.now s m c.as_slice-in-Object.ensures.value h)
     c.in_err-members-in-Object.ensures)
 
 -- ---- loops

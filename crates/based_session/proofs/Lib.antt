@@ -1,0 +1,3 @@
+pub mod KeptLists
+pub mod StepsOver
+pub mod BaseLaws

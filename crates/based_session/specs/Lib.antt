@@ -1,0 +1,4 @@
+pub mod Bases
+pub mod KeptViews
+pub mod Views
+pub mod Laws

@@ -1,0 +1,9 @@
+use Rattle.std.proofs.Common.{◌≡◌, true, Some}
+use Rattle.gate_log.specs.LogOnDisk.{IsBehind}
+use Rattle.case_seals.proofs.seals.append_first.Given as goal
+
+abbrev pub invariant-loop-i : goal.invariant-loop-i
+invariant-loop-i l = record {
+  sound : l.log.stored.sound ≡ true;
+  behind : IsBehind (Some l.disk.bytes) (λ _. ⊥) l.log.stored;
+}

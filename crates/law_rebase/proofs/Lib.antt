@@ -1,0 +1,2 @@
+pub mod CarriedWords
+pub mod ChainsOfBridges

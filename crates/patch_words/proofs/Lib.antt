@@ -1,0 +1,2 @@
+pub mod WordsLead
+pub mod WalkSteps

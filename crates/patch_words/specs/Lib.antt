@@ -1,0 +1,3 @@
+pub mod ToWord
+pub mod Laws
+pub mod Walks

@@ -1,0 +1,3 @@
+pub mod SealedLists
+pub mod SealedLogs
+pub mod SealedRecords
