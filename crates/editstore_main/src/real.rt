@@ -7,11 +7,11 @@ use std::io;
 
 /// The program: the top call with the words of the command line, over standard output and two files.
 ///
-/// The store is the file `editlens.store` of the current folder, and of a hub `edithub.store`. It is opened for reading.
-/// The new store is the file of the same name in the folder `.editlens.new` of the current folder. The program makes no
-/// folder, and ends with `DiskFault` if there is none. The file is made by the first write, and synced with its folder.
-/// It is locked as the programs lock a store that they write. A caller that holds the lock of the current folder may
-/// rename it to the name of the store after `Done`.
+/// The store is the file `editlens.store` of the current folder, and of a hub `edithub.store`. It is opened for
+/// reading. The new store is the file of the same name in the folder `.editlens.new` of the current folder. The program
+/// makes no folder, and ends with `DiskFault` if there is none. The file is made by the first write, and synced with
+/// its folder. It is locked as the programs lock a store that they write. A caller that holds the lock of the current
+/// folder may rename it to the name of the store after `Done`.
 ///
 /// The status is that of [`editstore`], or `NoMemory` if memory ran out at the words. What the streams and the files
 /// give and take is not known to the prover, so no clause speaks of it; nothing is written to standard error.
