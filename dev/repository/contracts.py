@@ -11,7 +11,7 @@ HEAD = re.compile(r"^(?P<indent> *)(?P<pub>pub )?(?:const )?fn (?P<name>\w+)")
 CLAUSE = re.compile(r"^\s*(requires|ensures)\b *(\w*) *(\{.*)$")
 # The groups of crates.txt whose crates are no libraries, and the crate of the program's group that has no call.
 OTHER_GROUPS = ("Tests.", "Measurements.")
-PROGRAMS = ("editlens", "edithub")
+PROGRAMS = ("editlens", "edithub", "editstore")
 
 
 @dataclass
