@@ -1,0 +1,3 @@
+pub mod RenamesHold
+pub mod UpkeepClauses
+pub mod UpkeepWords

@@ -1,0 +1,4 @@
+pub mod Renames
+pub mod UpkeepEnds
+pub mod UpkeepOrders
+pub mod UpkeepStores
