@@ -12,9 +12,10 @@ from .checkup import readable
 from .copies import snapshot_of, state_of
 from .hub_store import HubStore, stored_programs
 from .json_text import write_json
-from .kinds import folder_of, kind_of_first, split, state_in, state_lines
+from .kinds import folder_of, kind_of_first, split, state_lines
 from .lock import StoreLock
 from .log import FIRST, Log, is_change, kind_of, number_of, sync_folder, told, write_log
+from .remade import is_remade
 from .replacement import OLD, NotDone, Replacement, dated, free_name
 from .store import StoreRefused
 
@@ -54,17 +55,21 @@ def state_at(folder: str, number: int, path: str | None = None) -> Any:
 
 
 def compact(folder: str, path: str | None = None, wait: float = 0.0) -> list[str]:
-    """Makes a store of its program and one snapshot, with the same state. Returns what was done, in lines."""
+    """Makes a store of its program and one snapshot, with the same state. Returns what was done, in lines.
+
+    The program `editstore` makes the new file where it is built, and the store is of a session; so it does for `back`.
+    """
     with Replacement(folder, path, wait) as made, opened(folder) as log:
         state, before = made.old.show(), log.size
-        count, first = sum(map(is_change, log.payloads())), _first_record(made.old, log)
-        write_log(made.new.file, [first, snapshot_of(log.payloads(), made.old.path, made.work)])
-        after = os.path.getsize(made.new.file)
+        count = sum(map(is_change, log.payloads()))
+        if not is_remade(made, "compact"):
+            write_log(made.new.file, [_first_record(made.old, log), snapshot_of(log.payloads(), made.old.path, made.work)])
+        after, records = os.path.getsize(made.new.file), _records_in(made.new.file)
         if after >= before:
             raise NotDone(f"nothing is gained: the store has {before:,} bytes, and would have {after:,}")
         kept = cast(str, made.put(count=0, state=state, keeps_old=True))
         return [
-            f"{before:,} bytes in {len(log.spans)} records are {after:,} bytes in 2",
+            f"{before:,} bytes in {len(log.spans)} records are {after:,} bytes in {records}",
             f"given up: the history, undo, and the count of changes, which was {count} and is 0 now",
             f"the old store is {os.path.basename(kept)}, until compact --drop-old",
         ]
@@ -75,6 +80,11 @@ def _first_record(store, log):
     if not isinstance(store, HubStore):
         return next(log.payloads())
     return write_json({"hub": stored_programs(store.file), "version": 1}).encode()
+
+
+def _records_in(file):
+    with Log(file) as log:
+        return len(log.spans)
 
 
 def drop_old(place: str, path: str | None = None, wait: float = 0.0) -> list[str]:
@@ -107,11 +117,13 @@ def back(folder: str, number: int, path: str | None = None, wait: float = 0.0) -
         if any(kind_of(it) == "add" for it in payloads[number:]):
             payloads, is_whole = payloads[:number], False
         elif number < len(payloads):
-            payloads.append(snapshot_of(payloads[:number], made.old.path, made.work))
-            state = state_in(payloads[-1])
-        write_log(made.new.file, payloads)
+            state = state_of(payloads[:number], made.old.path)
+        if state is None or not is_whole or not is_remade(made, "back", str(number)):
+            last = [] if state is None else [snapshot_of(payloads[:number], made.old.path, made.work)]
+            write_log(made.new.file, payloads + last)
+        records = _records_in(made.new.file)
         kept = made.put(count=sum(map(is_change, payloads)), state=state, keeps_old=not is_whole)
-        said = [f"the store is as it was after record {number}, and has {len(payloads)} records"]
+        said = [f"the store is as it was after record {number}, and has {records} records"]
         if kept:
             said.append(f"the old store is {os.path.basename(kept)}, until compact --drop-old")
         return said + state_lines(state or made.old.show())

@@ -164,7 +164,8 @@ def test_a_store_of_version_1():
         assert store.show()[:2] == ({"a": 0}, {"b": 0})
         back(folder, 4)
         compact(folder)
-        assert [kind_of(it) for it in payloads_of(store.file)] == ["program", "snapshot"]
+        # The program editstore, where it is built, stores the version of the snapshot.
+        assert [kind_of(it) for it in payloads_of(store.file) if kind_of(it) != "version"] == ["program", "snapshot"]
         assert store.apply(['{"group":[]}'])[0].number == 1 and store.show()[0] == {"a": 5}
 
 
