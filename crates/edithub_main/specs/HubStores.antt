@@ -9,7 +9,7 @@ use Rattle.lens_io.specs.declared.source.Source as OfSource
 use Rattle.view_hub.specs.Laws.{IsHub}
 use Rattle.hub_run.specs.FormLenses.{form_lens}
 use Rattle.hub_run.specs.Runs.{HubState}
-use Rattle.hub_session.specs.contracts.instance.HubSessionStoredSession.TheImpl.{ghosts as hubs}
+use Rattle.hub_session.specs.HubGhosts.{hubs}
 use Rattle.hub_undo.specs.contracts.instance.HubUndoUndoneSession.TheImpl.{ghosts as undone_hubs}
 use Rattle.store_run.specs.Applies.{Applies}
 use Rattle.store_run.specs.Devices.{Devices}

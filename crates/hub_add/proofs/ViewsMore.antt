@@ -16,7 +16,7 @@ use Rattle.hub_records.proofs.FirstHubs.{without_limit}
 use Rattle.hub_records.proofs.StoodInStep.{view_stays}
 use Rattle.hub_records.proofs.WrittenStands.{view_stands}
 use Rattle.hub_session.specs.HubStates.{hub_opened_as, hub_stands_for, state_of_hub}
-use Rattle.hub_session.specs.PayloadLaws.{Stood, stood}
+use Rattle.hub_session.specs.RecordLaws.{HubFound, hub_found}
 use Rattle.hub_session.proofs.RunsStay.{stored_sound}
 use Rattle.hub_add.specs.AddCall.{IsViewMore, IsViewText, added_payload, state_with_view}
 use Rattle.hub_add.specs.AddedView.{IsAcceptedView}
@@ -24,13 +24,13 @@ use Rattle.hub_add.proofs.AddsRead.{added_joins, added_lens, added_typed}
 
 module _ (before : List (List ℕ)) (state : HubState) (part : List ℕ) (program : ProgramTree) (form : FormTree) (hub : HubTree) (accepted : IsAcceptedView state.forms part program form)
     (made : view_more form state.hub ≡ Some hub) (reads : tree_of_text (added_payload program) ≡ Some (tree_of_added (canonical program))) where
-  more_stands : Stood before state → hub_stands_for (before ++ added_payload program ∷ []) ≡ Ok (state_with_view state form hub, None)
+  more_stands : HubFound before state None → hub_stands_for (before ++ added_payload program ∷ []) ≡ Ok (state_with_view state form hub, None)
   more_stands was =
       let accepted_as = ap form_of_program (sym accepted.read) ∙ added_lens state.forms part form accepted.has_lens in
-      let may = subst (λ (x : HubState). joins x.forms form ≡ true) (sym was.state) (added_joins state.forms part form accepted.has_lens) in
-      let more = subst (λ (x : HubState). view_more form x.hub ≡ Some hub) (sym was.state) made in
+      let may = subst (λ (x : HubState). joins x.forms form ≡ true) (sym was.state_is) (added_joins state.forms part form accepted.has_lens) in
+      let more = subst (λ (x : HubState). view_more form x.hub ≡ Some hub) (sym was.state_is) made in
       let stands = view_stands before (added_payload program) was.s was.is part program form hub reads (without_limit part program accepted.read) accepted_as may more in
-      ap hub_opened_as stands ∙ ap (λ (x : HubState). Ok (state_with_view x form hub, None)) was.state
+      ap hub_opened_as stands ∙ ap (λ (x : HubState). Ok (state_with_view x form hub, None)) was.state_is
 
   pub is_view_more : hub_stands_for before ≡ Ok (state, None) → IsViewMore before state program form hub
   is_view_more h =
@@ -38,7 +38,7 @@ module _ (before : List (List ℕ)) (state : HubState) (part : List ℕ) (progra
       record {
         made = made;
         in_step = view_stays state.forms sound.0 form (added_typed state.forms part form accepted.has_lens) state.hub hub sound.1 (added_joins state.forms part form accepted.has_lens) made;
-        stand = more_stands (stood before state None h);
+        stand = more_stands (hub_found before state None h);
       }
 
 -- what the code made is such a view, and its payload is read so

@@ -13,7 +13,7 @@ ghost use Rattle.store_run.specs.Stores.{Store, RefusedStore};
 ghost use Rattle.hub_run.specs.RunStates.{forms_of_lenses, hub_state_of};
 ghost use Rattle.hub_records.specs.HubLenses.{joins};
 ghost use Rattle.hub_session.specs.HubStates.{hub_stands_for};
-ghost use Rattle.hub_session.specs.contracts.instance.HubSessionStoredSession.TheImpl.{ghosts as hubs};
+ghost use Rattle.hub_session.specs.HubGhosts.{hubs};
 ghost use Rattle.hub_add.specs.AddCall.{AddEnds, AddsView, EndsAdded, EndsWhole, IsAddCause, IsSafeAdd, IsViewText};
 ghost use Rattle.hub_add.specs.AddCall.{RefusesViewAtOnce, ViewHasNoRoom};
 
@@ -22,11 +22,12 @@ use command_ends::Status;
 use gate_log::Log;
 use hub_new::{UnreadHub, refuse_views};
 use hub_records::added_payload;
-use hub_session::HubSession;
+use hub_session::{HubEngine, HubSession};
 use lens_io::{Disk, Sink, Source};
 use program_accepted::Accepted;
 use std::alloc::{AllocError, Global};
 use store_new::status_at;
+use store_engine::Engine;
 use store_run::{MoreText, StoredSession, open_store, refuse_store, store_last};
 
 /// Opens the store of a hub, and adds the view of the program of a script.
@@ -92,7 +93,7 @@ pub fn add<S: Source, K: Sink, D: Disk>(
         Ok(store) => {
             let mut store = store;
             let open = &mut store;
-            add_opened(alloc, &mut open.session, source, &mut open.log, sink, disk)
+            add_opened(alloc, &mut open.session.engine, source, &mut open.log, sink, disk)
         }
         Err(fault) => refuse_store(alloc, fault, sink),
     }
@@ -101,7 +102,7 @@ pub fn add<S: Source, K: Sink, D: Disk>(
 // Reads a script, and adds its view to a hub that was opened.
 fn add_opened<S: Source, K: Sink, D: Disk>(
     alloc: Global,
-    session: &mut HubSession,
+    engine: &mut HubEngine,
     source: &mut S,
     log: &mut Log,
     sink: &mut K,
@@ -109,19 +110,19 @@ fn add_opened<S: Source, K: Sink, D: Disk>(
 ) -> Status
     requires stands { (base : List (List ℕ)) × StandsOn D.Disk disk.old log.old base }
     ensures ends { (before : List (List ℕ)) → StandsOn D.Disk disk.old log.old before
-        → hub_stands_for before ≡ Ok (hub_state_of session.old.hub, None)
+        → hub_stands_for before ≡ Ok (hub_state_of engine.old.hub, None)
         → AddEnds S.Source K.Sink D.Disk (devices_of source.old sink.old disk.old)
         (devices_of source.new sink.new disk.new)
-        before (hub_state_of session.old.hub) result }
+        before (hub_state_of engine.old.hub) result }
     ensures statuses { IsStatusAmong init_statuses result }
     ensures source_fault { result ≡ Status.SourceFault → SourceFailed S.Source source.old source.new }
     ensures sink_fault { result ≡ Status.SinkFault → SinkFailed K.Sink sink.old sink.new }
     ensures disk_fault { result ≡ Status.DiskFault → DiskFailed D.Disk disk.old disk.new }
 {
     // The proof needs that the hub has a lens, which this call says.
-    let _parts = session.hub().parts();
-    match read_view(alloc, session.hub().lenses(), source) {
-        Ok(accepted) => add_program(alloc, session, &accepted, log, sink, disk),
+    let _parts = engine.hub.parts();
+    match read_view(alloc, engine.hub.lenses(), source) {
+        Ok(accepted) => add_program(alloc, engine, &accepted, log, sink, disk),
         Err(UnreadHub::Refused(refused)) => refuse_views(alloc, &refused, sink),
         Err(UnreadHub::Stopped(fault)) => status_at(fault),
     }
@@ -130,22 +131,22 @@ fn add_opened<S: Source, K: Sink, D: Disk>(
 // Adds the view of a program that is accepted.
 fn add_program<K: Sink, D: Disk>(
     alloc: Global,
-    session: &mut HubSession,
+    engine: &mut HubEngine,
     accepted: &Accepted,
     log: &mut Log,
     sink: &mut K,
     disk: &mut D,
 ) -> Status
     requires stands { (base : List (List ℕ)) × StandsOn D.Disk disk.old log.old base }
-    requires joins { joins (forms_of_lenses session.old.hub.lenses) (form_tree accepted.now.lens) ≡ true }
+    requires joins { joins (forms_of_lenses engine.old.hub.lenses) (form_tree accepted.now.lens) ≡ true }
     ensures ends { (before : List (List ℕ)) → StandsOn D.Disk disk.old log.old before
-        → EndsAdded K.Sink D.Disk (sink.old, disk.old) (sink.new, disk.new) before (hub_state_of session.old.hub)
+        → EndsAdded K.Sink D.Disk (sink.old, disk.old) (sink.new, disk.new) before (hub_state_of engine.old.hub)
         (program_tree accepted.now.program) (form_tree accepted.now.lens) result }
     ensures statuses { IsStatusAmong quiet_statuses result }
     ensures sink_fault { result ≡ Status.SinkFault → SinkFailed K.Sink sink.old sink.new }
     ensures disk_fault { result ≡ Status.DiskFault → DiskFailed D.Disk disk.old disk.new }
 {
-    let Ok(more) = view_text(alloc, session, accepted) else {
+    let Ok(more) = view_text(alloc, engine, accepted) else {
         return Status::NoMemory;
     };
     store_last(alloc, &None, &more, log, sink, disk)
@@ -154,15 +155,15 @@ fn add_program<K: Sink, D: Disk>(
 // The payload of a program, and the state lines of the hub with its view.
 fn view_text(
     alloc: Global,
-    session: &mut HubSession,
+    engine: &mut HubEngine,
     accepted: &Accepted,
 ) -> Result<MoreText, AllocError>
-    requires joins { joins (forms_of_lenses session.old.hub.lenses) (form_tree accepted.now.lens) ≡ true }
-    ensures { IfOk result (λ more. IsViewText (hub_state_of session.old.hub) (program_tree accepted.now.program)
+    requires joins { joins (forms_of_lenses engine.old.hub.lenses) (form_tree accepted.now.lens) ≡ true }
+    ensures { IfOk result (λ more. IsViewText (hub_state_of engine.old.hub) (program_tree accepted.now.program)
         (form_tree accepted.now.lens) more.payload more.lines) }
 {
-    session.add(alloc, &accepted.lens)?;
+    engine.add(alloc, &accepted.lens)?;
     let payload = added_payload(alloc, &accepted.program)?;
-    let lines = session.state_lines(alloc)?;
+    let lines = engine.state_lines(alloc)?;
     Ok(MoreText { payload, lines })
 }

@@ -24,7 +24,8 @@ use Rattle.hub_run.specs.declared.pieces.TheConstants.{MOST_VIEWS}
 use Rattle.hub_run.proofs.FoundForms.{found_view, of_pieces}
 use Rattle.hub_records.specs.HubLenses.{joins, joining_form, forms_more, form_of_item, forms_behind, forms_of_items, forms_of_payload}
 use Rattle.hub_records.specs.HubRecords.{items_of_texts, tree_of_programs, programs_of}
-use Rattle.hub_records.specs.HubStands.{hub_at_start, hub_from_opening, stands_as_hub}
+use Rattle.store_engine.specs.RecordFold.{from_first}
+use Rattle.hub_records.specs.HubStands.{hub_at_start, hub_after, stands_as_hub}
 
 -- ---- a program, and its canonical text
 
@@ -122,4 +123,4 @@ programs_stand payload ps programs forms reads read found one =
     let behind = behind_are ps programs [] forms read (of_pieces ps forms found) (omega (arith, few_pieces ps forms found)) in
     let items : forms_of_payload payload ≡ Some forms =
     ap (λ o. option_and_then forms_of_items (option_and_then programs_of o)) reads ∙ items_are programs forms one behind in
-    ap (hub_from_opening []) items
+    ap (λ o. from_first hub_after [] (option_map hub_at_start o)) items

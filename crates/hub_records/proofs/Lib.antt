@@ -1,4 +1,3 @@
-pub mod Appending
 pub mod EditTokens
 mod Examples
 pub mod FirstHubs
@@ -8,8 +7,6 @@ pub mod HubTrees
 pub mod JoiningForms
 pub mod LowForms
 pub mod OneView
-pub mod Openings
-pub mod PartsStand
 pub mod RecordSteps
 pub mod RecordsAreRead
 pub mod SavedViews

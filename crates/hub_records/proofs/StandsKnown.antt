@@ -4,11 +4,12 @@ use Rattle.lens_forms.specs.Forms.{FormTree}
 use Rattle.store_records.specs.StoredLens.{form_of_text}
 use Rattle.store_records.specs.declared.record_fault.RecordFault.{RecordFault}
 use Rattle.store_records.specs.declared.record_fault.RecordFault.TheVariants.{NotConsistent, NoMemory}
+use Rattle.store_engine.proofs.FoldParts.{always_known}
 use Rattle.view_hub.specs.Groups.{GroupStepped}
 use Rattle.view_hub.specs.Hubs.{HubTree}
-use Rattle.hub_records.specs.HubLenses.{joining_form, forms_of_payload}
+use Rattle.hub_records.specs.HubLenses.{joining_form}
 use Rattle.hub_records.specs.HubRecords.{HubRecordTree, change_record, add_record, snapshot_record, hub_record_in}
-use Rattle.hub_records.specs.HubStands.{HubStanding, hub_step_of, hub_after_step, with_view_form, after_view_found, hub_from, are_consistent, after_hub_snapshot, hub_after_record, hub_going_on, hub_after_payloads, hub_at_start, hub_from_opening, stands_as_hub}
+use Rattle.hub_records.specs.HubStands.{HubStanding, hub_step_of, hub_after_step, with_view_form, after_view_found, hub_from, are_consistent, after_hub_snapshot, hub_after_record, hub_first, hub_after, stands_as_hub}
 
 module _ (n : ℕ) (s : HubStanding) where
   step_known : (o : Option GroupStepped) → hub_after_step n s o ≡ Err NoMemory → ⊥
@@ -34,20 +35,5 @@ module _ (n : ℕ) (s : HubStanding) where
   record_known (Some (add_record text)) h = view_known (option_and_then (with_view_form s) (joining_form s.forms (form_of_text text))) h
   record_known (Some (snapshot_record p)) h = hub_known (hub_from s.forms p) h
 
-goes_known : (r : Result HubStanding RecordFault) (others : HubStanding → Result HubStanding RecordFault) → (r ≡ Err NoMemory → ⊥) → ((t : HubStanding) → others t ≡ Err NoMemory → ⊥)
-    → hub_going_on others r ≡ Err NoMemory → ⊥
-goes_known (Ok t) others first rest h = rest t h
-goes_known (Err fault) others first rest h = first h
-
-payloads_known : (n : ℕ) (s : HubStanding) (ps : List (List ℕ)) → hub_after_payloads n s ps ≡ Err NoMemory → ⊥
-payloads_known n s [] h = cc
-payloads_known n s (p ∷ ps) h =
-    goes_known (hub_after_record n s (hub_record_in p)) (λ t. hub_after_payloads (n + 1) t ps) (record_known n s (hub_record_in p)) (λ t e. payloads_known (n + 1) t ps e) h
-
-opening_known : (ps : List (List ℕ)) (o : Option (List FormTree)) → hub_from_opening ps o ≡ Err NoMemory → ⊥
-opening_known ps (Some forms) h = payloads_known 2 (hub_at_start forms) ps h
-opening_known ps None h = cc
-
 pub stands_known : (ps : List (List ℕ)) → stands_as_hub ps ≡ Err NoMemory → ⊥
-stands_known [] h = cc
-stands_known (p ∷ ps) h = opening_known ps (forms_of_payload p) h
+stands_known ps h = always_known hub_first hub_after (λ n s p. record_known n s (hub_record_in p)) ps h

@@ -27,6 +27,7 @@ use Rattle.program_accepted.proofs.AcceptedForms.{result_typed}
 use Rattle.store_records.specs.StoredLens.{accepted, form_of_text}
 use Rattle.store_records.specs.declared.record_fault.RecordFault.{RecordFault}
 use Rattle.store_records.specs.declared.record_fault.RecordFault.TheVariants.{NotConsistent}
+use Rattle.store_engine.specs.FoldLaws.{all_hold}
 use Rattle.store_session.specs.ConsistencyTest.{is_consistent}
 use Rattle.store_session.specs.ConsistencyDecided.{consistent_if}
 use Rattle.view_hub.specs.Groups.{GroupStepped, with_words, then_others, step_group}
@@ -44,7 +45,7 @@ use Rattle.hub_run.proofs.FoundForms.{OneLeft, typed_more, one_more, some_left}
 use Rattle.hub_records.specs.HubChanges.{HubChangeTree, edits_of}
 use Rattle.hub_records.specs.HubLenses.{joins, joining_form, form_of_item, forms_behind, forms_of_items, forms_of_payload}
 use Rattle.hub_records.specs.HubRecords.{HubRecordTree, change_record, add_record, snapshot_record, programs_of, hub_record_in}
-use Rattle.hub_records.specs.HubStands.{HubStanding, hub_step_of, hub_after_step, view_more, with_view_form, after_view_found, hub_from, are_consistent, after_hub_snapshot, hub_after_record, hub_going_on, hub_after_payloads, hub_at_start, hub_from_opening, stands_as_hub}
+use Rattle.hub_records.specs.HubStands.{HubStanding, hub_step_of, hub_after_step, view_more, with_view_form, after_view_found, hub_from, are_consistent, after_hub_snapshot, hub_after_record, hub_at_start, hub_first, hub_after, stands_as_hub}
 use Rattle.hub_records.proofs.JoiningForms.{joined}
 
 -- ---- the lens of a text that is accepted is typed
@@ -256,24 +257,20 @@ module _ (n : ℕ) (s u : HubStanding) (k : IsSound s) where
 
 -- ---- all records
 
-goes_on : (others : HubStanding → Result HubStanding RecordFault) (r : Result HubStanding RecordFault) (u : HubStanding)
-    → ((t : HubStanding) → r ≡ Ok t → others t ≡ Ok u → IsSound u) → hub_going_on others r ≡ Ok u → IsSound u
-goes_on others (Ok t) u all h = all t refl h
-goes_on others (Err fault) u all h = absurd cc
-
-payloads_sound : (ps : List (List ℕ)) (n : ℕ) (s u : HubStanding) → IsSound s → hub_after_payloads n s ps ≡ Ok u → IsSound u
-payloads_sound [] n s u k h = let same : s ≡ u = cc in subst IsSound same k
-payloads_sound (p ∷ ps) n s u k h =
-    goes_on (λ t. hub_after_payloads (n + 1) t ps) (hub_after_record n s (hub_record_in p)) u
-    (λ t e g. payloads_sound ps (n + 1) t u (record_sound n s t k (hub_record_in p) e) g) h
-
 start_sound : (forms : List FormTree) → AreSound forms → IsSound (hub_at_start forms)
 start_sound forms s = (s.0, forms_start forms s.0 s.1)
 
-opening_sound : (p : List ℕ) (ps : List (List ℕ)) (o : Option (List FormTree)) (u : HubStanding) → forms_of_payload p ≡ o → hub_from_opening ps o ≡ Ok u → IsSound u
-opening_sound p ps (Some forms) u is h = payloads_sound ps 2 (hub_at_start forms) u (start_sound forms (first_sound p forms is)) h
-opening_sound p ps None u is h = absurd cc
+of_start : (o : Option (List FormTree)) (s : HubStanding) → ((forms : List FormTree) → o ≡ Some forms → AreSound forms) → option_map hub_at_start o ≡ Some s → IsSound s
+of_start (Some forms) s all h =
+    let same : hub_at_start forms ≡ s = cc in
+    subst IsSound same (start_sound forms (all forms refl))
+of_start None s all h = absurd cc
+
+pub begins_sound : (p : List ℕ) (s : HubStanding) → hub_first p ≡ Some s → IsSound s
+begins_sound p s h = of_start (forms_of_payload p) s (first_sound p) h
+
+pub stays_sound : (n : ℕ) (s u : HubStanding) (p : List ℕ) → IsSound s → hub_after n s p ≡ Ok u → IsSound u
+stays_sound n s u p k h = record_sound n s u k (hub_record_in p) h
 
 pub stood_sound : (ps : List (List ℕ)) (s : HubStanding) → stands_as_hub ps ≡ Ok s → IsSound s
-stood_sound [] s h = absurd cc
-stood_sound (p ∷ ps) s h = opening_sound p ps (forms_of_payload p) s refl h
+stood_sound = all_hold hub_first hub_after IsSound begins_sound stays_sound

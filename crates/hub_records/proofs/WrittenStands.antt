@@ -18,6 +18,7 @@ use Rattle.program_accepted.specs.Program.{form_of_program}
 use Rattle.store_records.specs.StoredLens.{accepted, form_of_text}
 use Rattle.store_records.specs.declared.record_fault.RecordFault.TheVariants.{NotConsistent}
 use Rattle.store_records.proofs.ComplementsAreRead.{read_back}
+use Rattle.store_engine.specs.FoldLaws.{one_more}
 use Rattle.store_session.specs.ConsistencyTest.{is_consistent}
 use Rattle.store_session.specs.ConsistencyDecided.{consistent_then}
 use Rattle.view_hub.specs.Hubs.{ViewTree, HubTree, CarriedTree}
@@ -27,37 +28,35 @@ use Rattle.hub_run.specs.FoundLenses.{AllTyped}
 use Rattle.hub_records.specs.HubChanges.{HubChangeTree, edits_of, tree_of_hub_change, all_counts_fit, all_numbers_fit}
 use Rattle.hub_records.specs.HubRecords.{tree_of_added, tree_of_view, items_of_views, tree_of_hub_snapshot, view_parts, hub_record_of}
 use Rattle.hub_records.specs.HubLenses.{joins, joining_form}
-use Rattle.hub_records.specs.HubStands.{HubStanding, hub_step_of, hub_after_step, view_more, with_view_form, after_view_found, after_add, view_of, views_of, hub_from, are_consistent, after_hub_snapshot, hub_after_record, stands_as_hub}
+use Rattle.hub_records.specs.HubStands.{HubStanding, hub_step_of, hub_after_step, view_more, with_view_form, after_view_found, after_add, view_of, views_of, hub_from, are_consistent, after_hub_snapshot, hub_after_record, hub_first, hub_after, stands_as_hub}
 use Rattle.hub_records.specs.WholeInts.{views_hold_i64s, hub_holds_i64s}
-use Rattle.hub_records.proofs.Appending.{stands_append}
 use Rattle.hub_records.proofs.RecordsAreRead.{change_read, snapshot_read}
 
 if_true : {X : Type 0} (b : Bool) (x y : X) → b ≡ true → cond b x y ≡ x
 if_true true x y h = refl
 if_true false x y h = cc
 
-module _ (ps : List (List ℕ)) (p : List ℕ) (s : HubStanding) (before : stands_as_hub ps ≡ Ok s) where
-  abbrev number : ℕ
-  number = length ps + 1
+-- ---- what a payload with its number makes
 
+module _ (number : ℕ) (p : List ℕ) (s : HubStanding) where
   -- the payload goes on by the record of its tree
-  goes_on : (d : Data) → tree_of_text p ≡ Some d → stands_as_hub (ps ++ p ∷ []) ≡ hub_after_record number s (hub_record_of d)
-  goes_on d reads = stands_append ps p s before ∙ ap (λ o. hub_after_record number s (option_and_then hub_record_of o)) reads
+  goes_on : (d : Data) → tree_of_text p ≡ Some d → hub_after number s p ≡ hub_after_record number s (hub_record_of d)
+  goes_on d reads = ap (λ o. hub_after_record number s (option_and_then hub_record_of o)) reads
 
   -- ---- a change
 
-  pub change_stands : (change : HubChangeTree) (h : HubTree) (words : List CarriedTree) → tree_of_text p ≡ Some (tree_of_hub_change change)
+  pub change_taken : (change : HubChangeTree) (h : HubTree) (words : List CarriedTree) → tree_of_text p ≡ Some (tree_of_hub_change change)
       → all_counts_fit (edits_of change) ≡ true → all_numbers_fit (edits_of change) ≡ true → hub_step_of s.forms s.hub change ≡ Some (Ok (h, words))
-      → stands_as_hub (ps ++ p ∷ []) ≡ Ok (record s { hub = h; count = s.count + 1 })
-  change_stands change h words reads counts numbers steps =
+      → hub_after number s p ≡ Ok (record s { hub = h; count = s.count + 1 })
+  change_taken change h words reads counts numbers steps =
       goes_on (tree_of_hub_change change) reads ∙ ap (hub_after_record number s) (change_read change counts numbers) ∙ ap (hub_after_step number s) steps
 
   -- ---- a view more
 
-  pub view_stands : (text : List ℕ) (program : ProgramTree) (l : FormTree) (h : HubTree) → tree_of_text p ≡ Some (tree_of_added (canonical program))
+  pub view_taken : (text : List ℕ) (program : ProgramTree) (l : FormTree) (h : HubTree) → tree_of_text p ≡ Some (tree_of_added (canonical program))
       → unbounded text ≡ Ok program → form_of_program (Ok program) ≡ Ok l → joins s.forms l ≡ true → view_more l s.hub ≡ Some h
-      → stands_as_hub (ps ++ p ∷ []) ≡ Ok (record s { forms = s.forms ++ l ∷ []; hub = h })
-  view_stands text program l h reads is accepted_as may more =
+      → hub_after number s p ≡ Ok (record s { forms = s.forms ++ l ∷ []; hub = h })
+  view_taken text program l h reads is accepted_as may more =
       let again_read = read_again text program is in
       let form : form_of_text (canonical program) ≡ Some l = ap (λ r. accepted (form_of_program r)) again_read ∙ ap accepted accepted_as in
       let stays : joining_form s.forms (Some l) ≡ Some l = if_true (joins s.forms l) (Some l) None may in
@@ -110,10 +109,30 @@ module _ (ps : List (List ℕ)) (p : List ℕ) (s : HubStanding) (before : stand
       ∙ if_true (are_consistent t.forms h.hub h.views) (Ok (record t { hub = h })) (Err (NotConsistent n)) (ap (λ fs. are_consistent fs h.hub h.views) is ∙ test)
 
   -- the snapshot of any hub that is in step with the lenses
+  pub hub_taken : (h : HubTree) → tree_of_text p ≡ Some (tree_of_hub_snapshot s.forms h) → AllTyped s.forms → IsHub form_lens s.forms h → hub_holds_i64s h ≡ true
+      → hub_after number s p ≡ Ok (record s { hub = h })
+  hub_taken h reads typed all whole =
+      goes_on (tree_of_hub_snapshot s.forms h) reads ∙ snapshot_goes s.forms number s h refl typed all whole
+
+-- ---- the same behind payloads
+
+module _ (ps : List (List ℕ)) (p : List ℕ) (s : HubStanding) (before : stands_as_hub ps ≡ Ok s) where
+  pub change_stands : (change : HubChangeTree) (h : HubTree) (words : List CarriedTree) → tree_of_text p ≡ Some (tree_of_hub_change change)
+      → all_counts_fit (edits_of change) ≡ true → all_numbers_fit (edits_of change) ≡ true → hub_step_of s.forms s.hub change ≡ Some (Ok (h, words))
+      → stands_as_hub (ps ++ p ∷ []) ≡ Ok (record s { hub = h; count = s.count + 1 })
+  change_stands change h words reads counts numbers steps =
+      one_more hub_first hub_after ps p s before ∙ change_taken (length ps + 1) p s change h words reads counts numbers steps
+
+  pub view_stands : (text : List ℕ) (program : ProgramTree) (l : FormTree) (h : HubTree) → tree_of_text p ≡ Some (tree_of_added (canonical program))
+      → unbounded text ≡ Ok program → form_of_program (Ok program) ≡ Ok l → joins s.forms l ≡ true → view_more l s.hub ≡ Some h
+      → stands_as_hub (ps ++ p ∷ []) ≡ Ok (record s { forms = s.forms ++ l ∷ []; hub = h })
+  view_stands text program l h reads is accepted_as may more =
+      one_more hub_first hub_after ps p s before ∙ view_taken (length ps + 1) p s text program l h reads is accepted_as may more
+
+  -- the snapshot of any hub that is in step with the lenses
   pub hub_stands : (h : HubTree) → tree_of_text p ≡ Some (tree_of_hub_snapshot s.forms h) → AllTyped s.forms → IsHub form_lens s.forms h → hub_holds_i64s h ≡ true
       → stands_as_hub (ps ++ p ∷ []) ≡ Ok (record s { hub = h })
-  hub_stands h reads typed all whole =
-      goes_on (tree_of_hub_snapshot s.forms h) reads ∙ snapshot_goes s.forms number s h refl typed all whole
+  hub_stands h reads typed all whole = one_more hub_first hub_after ps p s before ∙ hub_taken (length ps + 1) p s h reads typed all whole
 
   pub snapshot_stands : tree_of_text p ≡ Some (tree_of_hub_snapshot s.forms s.hub) → AllTyped s.forms → IsHub form_lens s.forms s.hub → hub_holds_i64s s.hub ≡ true
       → stands_as_hub (ps ++ p ∷ []) ≡ Ok s

@@ -1,5 +1,5 @@
 -- What payloads stand for where the store is a hub: lenses, a hub and a number of changes; or the first record that is
--- at fault. Read it from the end: `stands_as_hub`, `hub_after_record` with a line for each kind of record, and
+-- at fault. Read it from the end: `stands_as_hub`, a fold over `hub_after_record`, with a line for each kind of record, and
 -- `HubStanding`.
 use Rattle.std.specs.Prelude.{ℕ, ◌+◌, ◌&&◌, Bool, true, false, List, [], ◌∷◌, ◌++◌, Option, Some, None, option_map}
 use Rattle.std.specs.Prelude.{option_and_then, Result, Ok, Err, if◌then◌else◌}
@@ -8,6 +8,7 @@ use Rattle.value_json.specs.DocumentJson.{document_of}
 use Rattle.doc_values.specs.Documents.{DocTree}
 use Rattle.edit_inverse.specs.Construct.{construct}
 use Rattle.lens_forms.specs.Forms.{FormTree, left_type, right_type}
+use Rattle.store_engine.specs.RecordFold.{folded}
 use Rattle.store_session.specs.ConsistencyTest.{is_consistent}
 use Rattle.store_records.specs.StoredComplements.{complement_of}
 use Rattle.store_records.specs.StoredLens.{form_of_text}
@@ -100,28 +101,20 @@ hub_after_record number s (Some (change_record change)) = hub_after_step number 
 hub_after_record number s (Some (add_record text)) = after_add number s (form_of_text text)
 hub_after_record number s (Some (snapshot_record p)) = after_hub_snapshot number s (hub_from s.forms p)
 
--- the records from this number on, each from what stands after the one before it
-abbrev pub hub_going_on : (HubStanding → Result HubStanding RecordFault) → Result HubStanding RecordFault
-    → Result HubStanding RecordFault
-hub_going_on others (Ok s) = others s
-hub_going_on others (Err fault) = Err fault
-
-abbrev pub hub_after_payloads : ℕ → HubStanding → List (List ℕ) → Result HubStanding RecordFault
-hub_after_payloads number s [] = Ok s
-hub_after_payloads number s (p ∷ ps) =
-    hub_going_on (λ t. hub_after_payloads (number + 1) t ps) (hub_after_record number s (hub_record_in p))
-
 -- ---- all records
 
 -- the hub of some lenses at its start, before any change
 abbrev pub hub_at_start : List FormTree → HubStanding
 hub_at_start forms = record { forms = forms; hub = hub_of forms; count = 0 }
 
-abbrev pub hub_from_opening : List (List ℕ) → Option (List FormTree) → Result HubStanding RecordFault
-hub_from_opening ps (Some forms) = hub_after_payloads 2 (hub_at_start forms) ps
-hub_from_opening ps None = Err (BadRecord 1)
+-- what a payload represents as the first record
+abbrev pub hub_first : List ℕ → Option HubStanding
+hub_first payload = option_map hub_at_start (forms_of_payload payload)
 
--- what payloads stand for; the records are numbered from 1 on
+-- what the payload with this number makes of what the payloads before it represent
+abbrev pub hub_after : ℕ → HubStanding → List ℕ → Result HubStanding RecordFault
+hub_after number s payload = hub_after_record number s (hub_record_in payload)
+
+-- what payloads represent; the records are numbered from 1 on
 abbrev pub stands_as_hub : List (List ℕ) → Result HubStanding RecordFault
-stands_as_hub [] = Err (BadRecord 1)
-stands_as_hub (p ∷ ps) = hub_from_opening ps (forms_of_payload p)
+stands_as_hub payloads = folded hub_first hub_after payloads

@@ -5,6 +5,5 @@ pub mod HubStands
 pub mod LowForms
 pub mod OneLeftType
 pub mod OneView
-pub mod Outcomes
 pub mod Views
 pub mod WholeInts

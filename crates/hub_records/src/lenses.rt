@@ -21,14 +21,11 @@ use std::alloc::{AllocError, Global};
 use store_records::{lens_of_text, read_tree};
 use view_hub::Hub;
 
-// The lenses of the first payload of a store.
-//
-// None if and only if it is not the payload of a first record, or a program in it is refused, or the lenses may not
-// stand behind each other.
-pub(crate) fn lenses_of_payload(
-    alloc: Global,
-    payload: &[u8],
-) -> Result<Option<Vec<Flat>>, AllocError>
+/// The lenses of the first payload of a store.
+///
+/// None if and only if it is not the payload of a first record, or a program in it is refused, or the lenses may not
+/// stand behind each other. Fails only if memory runs out.
+pub fn lenses_of_payload(alloc: Global, payload: &[u8]) -> Result<Option<Vec<Flat>>, AllocError>
     ensures forms { IfOk result (λ o. option_map (λ ls. forms_of_lenses ls.items) o
         ≡ forms_of_payload payload.now) }
     ensures one_left { IfOk result (λ o. IfSome o (λ ls. HaveOneLeftType ready_lens ls.items)) }

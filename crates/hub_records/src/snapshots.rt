@@ -23,12 +23,12 @@ use std::rc::Rc;
 use store_session::{read_complement, read_document};
 use view_hub::{HubParts, View};
 
-// The hub of the trees of a document and of views.
-//
-// None if and only if one of them is not one of its lens's: a document of its type, or a complement that fits; or there
-// is not a view for each lens.
+/// The hub of the trees of a document and of views.
+///
+/// None if and only if one of them is not one of its lens's: a document of its type, or a complement that fits; or there
+/// is not a view for each lens. Fails only if memory runs out.
 #[tactic(auto, using(crate::proofs::SnapshotViews::parts_rules))]
-pub(crate) fn read_parts(
+pub fn read_parts(
     alloc: Global,
     lenses: &[Flat],
     hub: &Value,
@@ -99,13 +99,9 @@ fn read_shared(alloc: Global, ty: &Ty, tree: &Value) -> Result<Option<Rc<Doc>>, 
     }
 }
 
-// Whether each view is consistent with the hub's document.
+/// Whether each view is consistent with the hub's document. Fails only if memory runs out.
 #[tactic(auto, using(crate::proofs::SnapshotViews::snapshot_rules))]
-pub(crate) fn are_consistent(
-    alloc: Global,
-    lenses: &[Flat],
-    parts: &HubParts,
-) -> Result<bool, AllocError>
+pub fn are_consistent(alloc: Global, lenses: &[Flat], parts: &HubParts) -> Result<bool, AllocError>
     ensures { IfOk result (λ b. b ≡ are_consistent (forms_of_lenses lenses.now)
         (hub_tree parts.now).hub (hub_tree parts.now).views) }
 {

@@ -1,5 +1,5 @@
 pub mod AnswerLines
 pub mod AnswersMade
 pub mod CarriedLists
-pub mod HubOpenings
+pub mod FirstRecords
 pub mod RunsStay

@@ -16,7 +16,7 @@ use Rattle.hub_records.proofs.StoodInStep.{stood_sound, change_stays}
 use Rattle.hub_session.specs.AnswerSteps.{Steps, kinds}
 use Rattle.hub_session.specs.HubAnswers.{stored_hub_answer}
 use Rattle.hub_session.specs.HubStates.{hub_stands_for, stored_hub}
-use Rattle.hub_session.specs.PayloadLaws.{stood}
+use Rattle.hub_session.specs.RecordLaws.{hub_found}
 
 -- the lenses are typed, and the hub is in step with them
 abbrev pub IsSoundState : HubState → Type 0
@@ -25,7 +25,7 @@ IsSoundState s = AllTyped s.forms × IsHub form_lens s.forms s.hub
 -- ---- what stands
 
 pub stored_sound : (ps : List (List ℕ)) (t : HubState) (v : Option (List ℕ)) → hub_stands_for ps ≡ Ok (t, v) → IsSoundState t
-stored_sound ps t v h = let found = stood ps t v h in subst IsSoundState found.state (stood_sound ps found.s found.is)
+stored_sound ps t v h = let found = hub_found ps t v h in subst IsSoundState found.state_is (stood_sound ps found.s found.is)
 
 -- ---- one line
 

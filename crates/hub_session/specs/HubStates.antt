@@ -8,7 +8,7 @@ use Rattle.hub_run.specs.FormLenses.{form_lens}
 use Rattle.hub_run.specs.FoundLenses.{AllTyped}
 use Rattle.hub_run.specs.Runs.{HubState, hub_state_text}
 use Rattle.store_records.specs.declared.record_fault.RecordFault.{RecordFault}
-use Rattle.store_session.specs.StoredStates.{fault_of}
+use Rattle.store_engine.specs.Represented.{changes_in, represented_as}
 use Rattle.store_run.specs.declared.session.StoredAnswer.{StoredAnswer}
 use Rattle.store_run.specs.declared.session.ReopenFault.{ReopenFault}
 use Rattle.store_run.specs.declared.session.StoredSession as OfSession
@@ -25,21 +25,22 @@ use Rattle.hub_session.specs.HubAnswers.{HubJournalItem, stored_hub_answer}
 abbrev pub state_of_hub : HubStanding → HubState
 state_of_hub s = record { forms = s.forms; hub = s.hub }
 
+abbrev pub hub_count : HubStanding → ℕ
+hub_count s = s.count
+
 -- the store of a hub has no version record
+abbrev pub no_version_due : HubStanding → Option (List ℕ)
+no_version_due s = None
+
 abbrev pub hub_opened_as : Result HubStanding RecordFault → Result (HubState × Option (List ℕ)) ReopenFault
-hub_opened_as (Ok s) = Ok (state_of_hub s, None)
-hub_opened_as (Err fault) = Err (fault_of fault)
+hub_opened_as r = represented_as state_of_hub no_version_due r
 
 abbrev pub hub_stands_for : List (List ℕ) → Result (HubState × Option (List ℕ)) ReopenFault
 hub_stands_for payloads = hub_opened_as (hubs.stands_as_hub payloads)
 
-abbrev pub hub_counted : Result HubStanding RecordFault → ℕ
-hub_counted (Ok s) = s.count
-hub_counted (Err fault) = 0
-
 -- how many payloads are of changes
 abbrev pub hub_changes_counted : List (List ℕ) → ℕ
-hub_changes_counted payloads = hub_counted (hubs.stands_as_hub payloads)
+hub_changes_counted payloads = changes_in hub_count (hubs.stands_as_hub payloads)
 
 -- ---- steps and snapshots
 

@@ -1,4 +1,5 @@
 pub mod AnswerSteps
 pub mod HubAnswers
+pub mod HubGhosts
 pub mod HubStates
-pub mod PayloadLaws
+pub mod RecordLaws

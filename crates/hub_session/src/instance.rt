@@ -1,27 +1,40 @@
 //! The calls and the laws that a store needs of its hub.
 
 use crate::answering::answer_line;
-use crate::opening::open;
-use crate::session::HubSession;
+use crate::engine::HubEngine;
+use crate::records::{begin, take_record};
 use edit_journal::Line;
 use hub_records::snapshot_payload;
 use hub_run::{hub_state_lines, is_in_step};
-use lens_io::Payloads;
 use std::alloc::{AllocError, Global};
-use store_run::{Opened, ReopenFault, StoredAnswer, StoredSession};
+use store_engine::{Engine, RecordTaker};
+use store_records::RecordFault;
+use store_run::StoredAnswer;
 use texts::Bytes;
 
-impl StoredSession for HubSession {
-    ghost use Rattle.hub_run.specs.RunStates.{hub_state_of};
+impl RecordTaker for HubEngine {
+    ghost use Rattle.hub_records.specs.HubStands.{HubStanding, hub_after, hub_first};
+    ghost use Rattle.hub_records.specs.Views.{hub_standing};
     ghost use Rattle.hub_run.specs.Runs.{HubState, hub_state_text};
-    ghost use Rattle.hub_session.specs.AnswerSteps.{refused_stays};
     ghost use Rattle.hub_session.specs.HubAnswers.{stored_hub_answer};
     ghost use Rattle.hub_session.specs.HubStates as states;
-    ghost use Rattle.hub_session.specs.PayloadLaws as laws;
+    ghost use Rattle.hub_session.specs.RecordLaws as laws;
+
+    ghost Standing = { HubStanding };
+
+    ghost changes_of = { states.hub_count };
+
+    ghost first = { hub_first };
+
+    ghost after = { hub_after };
 
     ghost State = { HubState };
 
-    ghost state = { λ s. hub_state_of s.hub };
+    ghost state_of = { states.state_of_hub };
+
+    ghost version_due = { states.no_version_due };
+
+    ghost is_sound = { laws.IsAny };
 
     ghost answer = { stored_hub_answer };
 
@@ -33,26 +46,39 @@ impl StoredSession for HubSession {
 
     ghost has_snapshot = { states.HasHubSnapshot };
 
-    ghost count_of = { states.hub_changes_counted };
+    ghost standing = { λ e. hub_standing e.hub e.count };
 
-    ghost stands_for = { states.hub_stands_for };
+    fn begin(alloc: Global, payload: &[u8]) -> Result<Self, RecordFault> {
+        begin(alloc, payload)
+    }
 
-    ghost version_stands = { laws.version_stands };
+    fn take(&mut self, alloc: Global, number: u64, payload: &[u8]) -> Result<(), RecordFault> {
+        take_record(alloc, number, payload, self)
+    }
+}
 
-    ghost change_stands = { laws.change_stands };
+impl Engine for HubEngine {
+    ghost use Rattle.hub_session.specs.AnswerSteps.{refused_stays};
+    ghost use Rattle.hub_session.specs.RecordLaws as laws;
 
-    ghost version_counts = { laws.version_counts };
+    ghost first_is_sound = { laws.any_first };
 
-    ghost change_counts = { laws.change_counts };
+    ghost after_is_sound = { laws.any_after };
 
-    ghost snapshot_counts = { laws.snapshot_counts };
+    ghost version_taken = { laws.version_taken };
+
+    ghost change_taken = { laws.change_taken };
+
+    ghost snapshot_taken = { laws.snapshot_taken };
 
     ghost refused_stays = { refused_stays };
 
-    ghost snapshot_stands = { laws.snapshot_stands };
+    fn changes(&self) -> u64 {
+        self.count
+    }
 
-    fn reopen(alloc: Global, payloads: &Payloads) -> Result<Opened<Self>, ReopenFault> {
-        open(alloc, payloads)
+    fn version(&self, alloc: Global) -> Result<Option<Bytes>, AllocError> {
+        Ok(None)
     }
 
     fn snapshot(&self, alloc: Global) -> Result<Bytes, AllocError> {

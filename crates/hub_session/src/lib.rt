@@ -1,14 +1,14 @@
 //! A hub of the program as a store has it.
 //!
-//! [`HubSession`] is the hub for which the payloads of a store stand. It is a
-//! [`StoredSession`](store_run::StoredSession), so the commands over a store run with it. specs/HubStates.antt defines
-//! its state and what payloads stand for, and specs/HubAnswers.antt the answer to a line.
+//! [`HubEngine`] is the hub that the payloads of a store represent. It is an [`Engine`](store_engine::Engine), so
+//! [`HubSession`], the session over it, runs with the commands over a store. specs/HubStates.antt defines its state and
+//! what payloads represent, and specs/HubAnswers.antt the answer to a line.
 #![tactic(auto)]
 
 mod answering;
+mod engine;
 mod instance;
 mod lines;
-mod opening;
-mod session;
+mod records;
 
-pub use crate::session::HubSession;
+pub use crate::engine::{HubEngine, HubSession};

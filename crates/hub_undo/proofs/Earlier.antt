@@ -1,20 +1,22 @@
 -- What the payloads before the last changes represent, and that the last changes go on from there.
-use Rattle.std.proofs.Common.{◌≡◌, ℕ, zero, suc, ◌+◌, ◌-◌, ◌<◌, Bool, true, false, cond, List, [], ◌∷◌, ◌++◌, length, take, drop, take-append-drop, Option, Some, None, Result, Ok, Err, refl, sym, ap, subst, ◌∙◌, arith}
+use Rattle.std.proofs.Common.{◌≡◌, ℕ, ◌+◌, ◌-◌, ◌<◌, ◌≤◌, Bool, true, false, cond, List, [], ◌∷◌, ◌++◌, length, take, drop, take-append-drop, Option, Some, None, Result, Ok, Err, refl, sym, ap, subst, ◌∙◌, arith}
 use Rattle.std.specs.Prelude.{option_map, option_and_then, nat_lt}
 use Rattle.std.specs.Option.{option_or}
 use Rattle.std.proofs.lemmas.Bool.{ltb-true}
+use Rattle.std.proofs.lemmas.List.{length-take-le}
 use Rattle.serde_json.specs.Data.{Data}
 use Rattle.edit_journal.specs.EntryJson.{tree_of_text}
 use Rattle.lens_forms.specs.Forms.{FormTree}
 use Rattle.store_records.specs.declared.record_fault.RecordFault.{RecordFault}
+use Rattle.store_engine.specs.RecordFold.{after_payloads}
+use Rattle.store_engine.proofs.FoldParts.{went_on, parts_stand}
 use Rattle.view_hub.specs.Groups.{GroupStepped, step_group}
 use Rattle.view_hub.specs.Hubs.{HubTree, Place, CarriedTree, hub_step}
 use Rattle.edit_module.specs.Words.{WordTree}
 use Rattle.hub_run.specs.FormLenses.{form_lens}
 use Rattle.hub_records.specs.HubChanges.{HubChangeTree, edits_of}
-use Rattle.hub_records.specs.HubLenses.{forms_of_payload}
 use Rattle.hub_records.specs.HubRecords.{change_record, add_record, snapshot_record, hub_change_in, add_in, hub_snapshot_in, hub_record_of, hub_record_in}
-use Rattle.hub_records.specs.HubStands.{HubStanding, hub_step_of, hub_after_step, hub_after_record, hub_going_on, hub_after_payloads, hub_at_start, hub_from_opening, stands_as_hub}
+use Rattle.hub_records.specs.HubStands.{HubStanding, hub_step_of, hub_after_step, hub_after_record, hub_first, hub_after, stands_as_hub}
 use Rattle.hub_records.proofs.StoodInStep.{firsts}
 use Rattle.hub_undo.specs.HubUndone.{joined_carried, undone_step, hub_undone_behind, hub_undone_first, no_hub_words}
 use Rattle.hub_undo.specs.HubUndoing.{hub_change_of, hub_changes_of, edits_of_all, last_hub_changes}
@@ -23,47 +25,18 @@ use Rattle.hub_undo.specs.UndoMaking.{UndoneBy}
 
 -- ---- payloads in two parts
 
--- what the front of some payloads makes of a standing, and that the others go on from there
-pub record Goes (n : ℕ) (s u : HubStanding) (ps qs : List (List ℕ)) : Type 0 where
-  pub mid : HubStanding
-  pub front : hub_after_payloads n s ps ≡ Ok mid
-  pub number : ℕ
-  pub others : hub_after_payloads number mid qs ≡ Ok u
-
-first_goes : (n : ℕ) (s u : HubStanding) (p : List ℕ) (ps qs : List (List ℕ)) (r : Result HubStanding RecordFault) → hub_after_record n s (hub_record_in p) ≡ r
-    → ((t : HubStanding) → hub_after_payloads (n + 1) t (ps ++ qs) ≡ Ok u → Goes (n + 1) t u ps qs)
-    → hub_going_on (λ t. hub_after_payloads (n + 1) t (ps ++ qs)) r ≡ Ok u → Goes n s u (p ∷ ps) qs
-first_goes n s u p ps qs (Ok t) is rest h =
-    let g = rest t h in
-    record { mid = g.mid; front = ap (hub_going_on (λ x. hub_after_payloads (n + 1) x ps)) is ∙ g.front; number = g.number; others = g.others }
-first_goes n s u p ps qs (Err fault) is rest h = absurd cc
-
-goes_on : (n : ℕ) (s u : HubStanding) (ps qs : List (List ℕ)) → hub_after_payloads n s (ps ++ qs) ≡ Ok u → Goes n s u ps qs
-goes_on n s u [] qs h = record { mid = s; front = refl; number = n; others = h }
-goes_on n s u (p ∷ ps) qs h =
-    first_goes n s u p ps qs (hub_after_record n s (hub_record_in p)) refl (λ t e. goes_on (n + 1) t u ps qs e) h
-
--- the same of all payloads, of which the front has one at least
+-- what the front of some payloads represents, and that the others go on from there
 pub record StoodFirst (held : List (List ℕ)) (n : ℕ) (now : HubStanding) : Type 0 where
   pub was : HubStanding
   pub stood : stands_as_hub (take n held) ≡ Ok was
   pub number : ℕ
-  pub others : hub_after_payloads number was (drop n held) ≡ Ok now
+  pub others : after_payloads hub_after number was (drop n held) ≡ Ok now
 
-of_opening : (q : List ℕ) (ps qs : List (List ℕ)) (o : Option (List FormTree)) (now : HubStanding) → forms_of_payload q ≡ o → hub_from_opening (ps ++ qs) o ≡ Ok now
-    → (was : HubStanding) × (stands_as_hub (q ∷ ps) ≡ Ok was) × (number : ℕ) × (hub_after_payloads number was qs ≡ Ok now)
-of_opening q ps qs (Some forms) now is h =
-    let g = goes_on 2 (hub_at_start forms) now ps qs h in
-    (g.mid, ap (hub_from_opening ps) is ∙ g.front, g.number, g.others)
-of_opening q ps qs None now is h = absurd cc
-
-pub stood_first : (held : List (List ℕ)) (n : ℕ) (now : HubStanding) → 0 < n → stands_as_hub held ≡ Ok now → StoodFirst held n now
-stood_first held zero now some h = absurd (omega (arith, some))
-stood_first [] (suc k) now some h = absurd cc
-stood_first (q ∷ ps) (suc k) now some h =
-    let parts : stands_as_hub (q ∷ (take k ps ++ drop k ps)) ≡ Ok now = ap (λ rest. stands_as_hub (q ∷ rest)) (take-append-drop k ps) ∙ h in
-    let g = of_opening q (take k ps) (drop k ps) (forms_of_payload q) now refl parts in
-    record { was = g.0; stood = g.1; number = g.2; others = g.3 }
+pub stood_first : (held : List (List ℕ)) (n : ℕ) (now : HubStanding) → 0 < n → n ≤ length held → stands_as_hub held ≡ Ok now → StoodFirst held n now
+stood_first held n now some within h =
+    let front : 0 < length (take n held) = omega (arith, length-take-le n held within, some) in
+    let parts = parts_stand hub_first hub_after (take n held) (drop n held) now front (ap stands_as_hub (take-append-drop n held) ∙ h) in
+    record { was = parts.1; stood = parts.2; number = parts.0; others = parts.3 }
 
 -- ---- a payload of a change
 
@@ -100,12 +73,7 @@ step_made n s t (Some (Ok m)) h =
 step_made n s t (Some (Err why)) h = absurd cc
 step_made n s t None h = absurd cc
 
-next_goes : (r : Result HubStanding RecordFault) (others : HubStanding → Result HubStanding RecordFault) (u : HubStanding) → hub_going_on others r ≡ Ok u
-    → (t : HubStanding) × (r ≡ Ok t) × (others t ≡ Ok u)
-next_goes (Ok t) others u h = (t, refl, h)
-next_goes (Err fault) others u h = absurd cc
-
-pub changes_step : (n : ℕ) (s u : HubStanding) (ps : List (List ℕ)) (cs : List HubChangeTree) → hub_after_payloads n s ps ≡ Ok u → hub_changes_of ps ≡ Some cs
+pub changes_step : (n : ℕ) (s u : HubStanding) (ps : List (List ℕ)) (cs : List HubChangeTree) → after_payloads hub_after n s ps ≡ Ok u → hub_changes_of ps ≡ Some cs
     → (s.forms ≡ u.forms) × Stepped s.forms s.hub cs u.hub
 changes_step n s u [] cs h is =
     let same : s ≡ u = cc in
@@ -113,7 +81,7 @@ changes_step n s u [] cs h is =
     (ap (λ (x : HubStanding). x.forms) same, subst (λ cs. Stepped s.forms s.hub cs u.hub) none (ap (λ (x : HubStanding). x.hub) same))
 changes_step n s u (p ∷ ps) cs h is =
     let f = changes_front (hub_change_of p) (hub_changes_of ps) cs is in
-    let g = next_goes (hub_after_record n s (hub_record_in p)) (λ t. hub_after_payloads (n + 1) t ps) u h in
+    let g = went_on (λ t. after_payloads hub_after (n + 1) t ps) (hub_after n s p) u h in
     let t = g.0 in
     let made : hub_after_step n s (hub_step_of s.forms s.hub f.0) ≡ Ok t = sym (ap (hub_after_record n s) (change_is_record p f.0 f.1)) ∙ g.1 in
     let m = step_made n s t (hub_step_of s.forms s.hub f.0) made in
@@ -177,7 +145,7 @@ some_last count held cs h =
 pub earlier : (count : ℕ) (held : List (List ℕ)) (now : HubStanding) (changes : List HubChangeTree) → stands_as_hub held ≡ Ok now → last_hub_changes count held ≡ Some changes → Earlier count held now changes
 earlier count held now changes stood last =
     let l = some_last count held changes last in
-    let s = stood_first held (length held - count) now (omega (arith, l.0)) stood in
+    let s = stood_first held (length held - count) now (omega (arith, l.0)) (omega arith) stood in
     let steps = changes_step s.number s.was now (drop (length held - count) held) changes s.others l.1 in
     let u = changes_undone s.was.forms changes s.was.hub now.hub steps.1 in
     record { was = s.was; stood = s.stood; forms = steps.0; made = u.0; undone_is = u.1; ends = u.2 }

@@ -6,6 +6,7 @@ use Rattle.lens_forms.specs.Forms.{FormTree}
 use Rattle.store_records.specs.declared.record_fault.RecordFault.{RecordFault}
 use Rattle.store_records.specs.declared.record_fault.RecordFault.TheVariants.{BadRecord, NotConsistent, NoMemory}
 use Rattle.store_run.specs.declared.storing.MoreText.{MoreText}
+use Rattle.store_engine.specs.RecordOutcomes.{IsRecordFault}
 use Rattle.view_hub.specs.Hubs.{HubTree, CarriedTree}
 use Rattle.view_hub.specs.Laws.{IsHub}
 use Rattle.hub_run.specs.FormLenses.{form_lens}
@@ -13,7 +14,6 @@ use Rattle.hub_run.specs.Runs.{hub_state_lines}
 use Rattle.hub_records.specs.HubChanges.{HubChangeTree}
 use Rattle.hub_records.specs.HubRecords.{tree_of_hub_snapshot}
 use Rattle.hub_records.specs.HubStands.{HubStanding, stands_as_hub}
-use Rattle.hub_records.specs.Outcomes.{IsStandFault}
 use Rattle.hub_records.specs.WholeInts.{hub_holds_i64s}
 use Rattle.hub_records.proofs.StoodInStep.{stood_sound}
 use Rattle.hub_records.proofs.WrittenStands.{hub_stands}
@@ -112,7 +112,7 @@ pub nothing_to_undo : (count : ℕ) (held : List (List ℕ)) (now : HubStanding)
 nothing_to_undo count held now stood none =
     ap (λ r. hub_refusal_of r (last_hub_changes count held)) stood ∙ ap (hub_refusal_of (Ok now)) none
 
-pub refused_fault : (count : ℕ) (held : List (List ℕ)) (fault : RecordFault) → IsStandFault (stands_as_hub held) fault → IsMakingFault (hub_undo_refusal count held) (fault_of fault)
+pub refused_fault : (count : ℕ) (held : List (List ℕ)) (fault : RecordFault) → IsRecordFault (stands_as_hub held) fault → IsMakingFault (hub_undo_refusal count held) (fault_of fault)
 refused_fault count held (BadRecord number) is = ap (λ r. hub_refusal_of r (last_hub_changes count held)) is
 refused_fault count held (NotConsistent number) is = ap (λ r. hub_refusal_of r (last_hub_changes count held)) is
 refused_fault count held NoMemory is = tt

@@ -1,12 +1,12 @@
 //! What `undo` stores and writes, which is made before anything is stored.
 
 ghost use Rattle.std.specs.Prelude.{◌≡◌, IfOk, MatchResult, drop, option_map};
+ghost use Rattle.store_engine.specs.RecordOutcomes.{IsRecordFault};
 ghost use Rattle.view_hub.specs.Hubs.{CarriedTree, HubTree};
 ghost use Rattle.view_hub.specs.Views.{hub_carried_tree, hub_tree};
 ghost use Rattle.hub_run.specs.FormLenses.{form_lens};
 ghost use Rattle.hub_run.specs.RunStates.{forms_of_lenses};
 ghost use Rattle.hub_records.specs.HubStands.{stands_as_hub};
-ghost use Rattle.hub_records.specs.Outcomes.{IsStandFault};
 ghost use Rattle.hub_undo.specs.HubUndone.{HubBringsBack};
 ghost use Rattle.hub_undo.specs.HubUndoing.{hub_changes_of, last_hub_changes, hub_undo_refusal};
 ghost use Rattle.hub_undo.specs.UndoMaking.{AreTexts, IsMade, StoodTwice, UndoneBy, change_trees};
@@ -14,11 +14,11 @@ ghost use Rattle.store_run.specs.Making.{IsMakingFault};
 
 use crate::stepping::undo_changes;
 use crate::undo_lines::undo_lines;
-use hub_records::{
-    HubChange, OpenedHub, change_of_payload, go_on_hub, reopen_first_hub, snapshot_payload,
-};
+use hub_records::{HubChange, change_of_payload, snapshot_payload};
+use hub_session::HubEngine;
 use lens_flat::Flat;
 use std::alloc::{AllocError, Global};
+use store_engine::{go_on, reopen_first};
 use store_records::RecordFault;
 use store_run::{Making, MakingFault, MoreText, StoreRefusal};
 use store_undo::{kept_before, making_fault};
@@ -28,7 +28,7 @@ use view_hub::{Hub, HubCarried, HubParts, copy_parts};
 // A hub that was opened, and the parts that it had before the last records.
 #[derive(Drop)]
 pub(crate) struct OpenedTwice {
-    pub(crate) opened: OpenedHub,
+    pub(crate) opened: HubEngine,
     pub(crate) earlier: HubParts,
 }
 
@@ -45,12 +45,12 @@ pub(crate) fn make(alloc: Global, count: u64, records: &[Bytes]) -> Result<Makin
 // The hub that payloads represent, with the parts that it had before the last `count` payloads. If there are not so
 // many behind the first one, the parts are those of all.
 fn open(alloc: Global, count: u64, records: &[Bytes]) -> Result<OpenedTwice, RecordFault>
-    ensures { MatchResult result (StoodTwice count records.now) (IsStandFault (stands_as_hub records.now)) }
+    ensures { MatchResult result (StoodTwice count records.now) (IsRecordFault (stands_as_hub records.now)) }
 {
     let kept = kept_before(count, records.len());
-    let mut opened = reopen_first_hub(alloc, records, kept)?;
+    let mut opened: HubEngine = reopen_first(alloc, records, kept)?;
     let earlier = copy_parts(alloc, opened.hub.parts())?;
-    go_on_hub(alloc, records, kept, &mut opened)?;
+    go_on(alloc, records, kept, &mut opened)?;
     Ok(OpenedTwice { opened, earlier })
 }
 

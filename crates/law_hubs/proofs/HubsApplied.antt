@@ -6,7 +6,7 @@ use Rattle.lens_io.specs.declared.disk.Disk as OfDisk
 use Rattle.lens_io.specs.declared.sink.Sink as OfSink
 use Rattle.lens_io.specs.declared.source.Source as OfSource
 use Rattle.edithub_main.specs.HubStores.{AppliesHub, HubStore}
-use Rattle.hub_session.specs.contracts.instance.HubSessionStoredSession.TheImpl.{ghosts as hubs}
+use Rattle.hub_session.specs.HubGhosts.{hubs}
 use Rattle.hub_session.specs.declared.session.HubSession.{HubSession}
 use Rattle.law_stores.specs.CallsOverStores.{AppliesOver}
 use Rattle.law_stores.specs.SessionRuns.{IsNumberedAlike}

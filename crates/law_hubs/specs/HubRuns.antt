@@ -7,7 +7,7 @@ use Rattle.edithub_main.specs.HubStores.{IsHubStateInStep}
 use Rattle.hub_records.specs.HubChanges.{HubChangeTree, hub_change_of_line}
 use Rattle.hub_run.specs.Runs.{HubState}
 use Rattle.hub_session.specs.HubAnswers.{hub_change_text}
-use Rattle.hub_session.specs.contracts.instance.HubSessionStoredSession.TheImpl.{ghosts as hubs}
+use Rattle.hub_session.specs.HubGhosts.{hubs}
 use Rattle.store_run.specs.StoreRuns.{kept_of, last_stored, run_in_store}
 use Rattle.store_run.specs.declared.session.StoredAnswer.{StoredAnswer}
 use Rattle.law_stores.specs.SessionRuns.{accepted_lines}

@@ -14,7 +14,7 @@ ghost use Rattle.edit_journal.specs.declared.line.Line.{Line};
 ghost use Rattle.edithub_main.specs.HubStores.{AppliesHub, HubStore};
 ghost use Rattle.hub_run.specs.Runs.{HubState};
 ghost use Rattle.hub_session.specs.HubStates.{hub_stands_for};
-ghost use Rattle.hub_session.specs.contracts.instance.HubSessionStoredSession.TheImpl.{ghosts as hubs};
+ghost use Rattle.hub_session.specs.HubGhosts.{hubs};
 ghost use Rattle.law_stores.specs.CallsOverStores.{FinishesLines, GoesOnFrom, LeavesFirstLines, StaysClosed, held_on};
 ghost use Rattle.law_stores.specs.CutStores.{EndsALine, MeetAgain};
 ghost use Rattle.law_stores.specs.SessionRuns.{IsNumberedAlike};

@@ -13,7 +13,7 @@ use Rattle.hub_run.specs.RunStates.{hub_state_of}
 use Rattle.hub_run.specs.Runs as scripts
 use Rattle.hub_run.specs.Runs.{HubState, first_state, hub_state_text}
 use Rattle.hub_session.specs.HubStates.{hub_opened_as}
-use Rattle.hub_session.specs.contracts.instance.HubSessionStoredSession.TheImpl.{ghosts as hubs}
+use Rattle.hub_session.specs.HubGhosts.{hubs}
 use Rattle.hub_session.specs.declared.session.HubSession.{HubSession}
 use Rattle.lens_forms.specs.Forms.{FormTree}
 use Rattle.lens_io.specs.declared.disk.Disk as OfDisk

@@ -14,7 +14,7 @@ ghost use Rattle.hub_new.specs.HubInit.{StartsHub};
 ghost use Rattle.hub_run.specs.EditJson.{edit_of_line};
 ghost use Rattle.hub_run.specs.Runs.{HubState, hub_answer as script_answer};
 ghost use Rattle.hub_session.specs.HubAnswers.{stored_hub_answer as stored_answer};
-ghost use Rattle.hub_session.specs.contracts.instance.HubSessionStoredSession.TheImpl.{ghosts as hubs};
+ghost use Rattle.hub_session.specs.HubGhosts.{hubs};
 ghost use Rattle.script_input.specs.Lines.{program_part};
 ghost use Rattle.run_scripts.specs.LineRuns.{run_lines as run_scripts};
 ghost use Rattle.store_new.specs.Init.{Starts};

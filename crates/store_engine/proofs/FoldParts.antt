@@ -1,5 +1,5 @@
 -- What the first payloads represent, and what all of them represent.
-use Rattle.std.proofs.Common.{◌≡◌, ℕ, ◌+◌, ◌<◌, ◌≤◌, List, [], ◌∷◌, ◌++◌, length, take, drop, get_or, Option, Result, Ok, Err, refl, sym, ap, ◌∙◌, arith}
+use Rattle.std.proofs.Common.{◌≡◌, ℕ, zero, suc, ◌+◌, ◌<◌, ◌≤◌, List, [], ◌∷◌, ◌++◌, length, take, drop, get_or, Option, Some, None, Result, Ok, Err, refl, sym, ap, ◌∙◌, arith}
 use Rattle.std.proofs.lemmas.List.{take-append-drop, take_more, length-take-le}
 use Rattle.store_records.specs.declared.record_fault.RecordFault.{RecordFault}
 use Rattle.store_records.specs.declared.record_fault.RecordFault.TheVariants.{BadRecord, NotConsistent, NoMemory}
@@ -60,3 +60,36 @@ module _ {S : Type 0} (first : List ℕ → Option S) (after : ℕ → S → Lis
   parts_stand (p ∷ ps) qs end some h =
       let parts = parts_from ps qs (first p) end h in
       (2 + length ps, parts.0, parts.1, parts.2)
+
+-- ---- payloads that represent something did so after each record
+
+module _ {S : Type 0} (first : List ℕ → Option S) (after : ℕ → S → List ℕ → Result S RecordFault) where
+  pub first_part : (n : ℕ) (ps : List (List ℕ)) (end : S) → 0 < n → folded first after ps ≡ Ok end
+      → (s : S) × (folded first after (take n ps) ≡ Ok s)
+  first_part n [] end some h = cc
+  first_part zero (p ∷ ps) end some h = absurd (omega (arith, some))
+  first_part (suc n) (p ∷ ps) end some h =
+      let parts = parts_from first after (take n ps) (drop n ps) (first p) end (ap (λ (qs : List (List ℕ)). from_first after qs (first p)) (take-append-drop n ps) ∙ h) in
+      (parts.0, parts.1)
+
+-- ---- what payloads represent is known: it is never running out of memory
+
+module _ {S : Type 0} (first : List ℕ → Option S) (after : ℕ → S → List ℕ → Result S RecordFault)
+    (known : (n : ℕ) (s : S) (p : List ℕ) → after n s p ≡ Err NoMemory → ⊥) where
+  goes_known : (others : S → Result S RecordFault) (r : Result S RecordFault) → (r ≡ Err NoMemory → ⊥) → ((t : S) → others t ≡ Err NoMemory → ⊥)
+      → going_on others r ≡ Err NoMemory → ⊥
+  goes_known others (Ok t) here rest h = rest t h
+  goes_known others (Err fault) here rest h = here h
+
+  payloads_known : (n : ℕ) (s : S) (ps : List (List ℕ)) → after_payloads after n s ps ≡ Err NoMemory → ⊥
+  payloads_known n s [] h = cc
+  payloads_known n s (p ∷ ps) h =
+      goes_known (λ t. after_payloads after (n + 1) t ps) (after n s p) (known n s p) (λ t e. payloads_known (n + 1) t ps e) h
+
+  opening_known : (ps : List (List ℕ)) (o : Option S) → from_first after ps o ≡ Err NoMemory → ⊥
+  opening_known ps (Some s) h = payloads_known 2 s ps h
+  opening_known ps None h = cc
+
+  pub always_known : (ps : List (List ℕ)) → folded first after ps ≡ Err NoMemory → ⊥
+  always_known [] h = cc
+  always_known (p ∷ ps) h = opening_known ps (first p) h

@@ -51,24 +51,27 @@ module _ {S : Type 0} (first : List ℕ → Option S) (after : ℕ → S → Lis
 
 -- ---- what holds of all that is represented
 
+-- each record keeps it
+module _ {S : Type 0} (after : ℕ → S → List ℕ → Result S RecordFault) (P : S → Type 0)
+    (keeps : (n : ℕ) (s t : S) (p : List ℕ) → P s → after n s p ≡ Ok t → P t) where
+  others_keep : (others : S → Result S RecordFault) (r : Result S RecordFault) (u : S)
+      → ((t : S) → r ≡ Ok t → others t ≡ Ok u → P u) → going_on others r ≡ Ok u → P u
+  others_keep others (Ok t) u all h = all t refl h
+  others_keep others (Err fault) u all h = cc
+
+  pub payloads_keep : (n : ℕ) (s u : S) (ps : List (List ℕ)) → P s → after_payloads after n s ps ≡ Ok u → P u
+  payloads_keep n s u [] k h = let same : s ≡ u = cc in subst P same k
+  payloads_keep n s u (p ∷ ps) k h =
+      others_keep (λ t. after_payloads after (n + 1) t ps) (after n s p) u
+      (λ t e more. payloads_keep (n + 1) t u ps (keeps n s t p k e) more) h
+
 -- it holds of each first record, and each other record keeps it
 module _ {S : Type 0} (first : List ℕ → Option S) (after : ℕ → S → List ℕ → Result S RecordFault) (P : S → Type 0)
     (begins : (p : List ℕ) (s : S) → first p ≡ Some s → P s)
     (keeps : (n : ℕ) (s t : S) (p : List ℕ) → P s → after n s p ≡ Ok t → P t) where
-  others_hold : (others : S → Result S RecordFault) (r : Result S RecordFault) (u : S)
-      → ((t : S) → r ≡ Ok t → others t ≡ Ok u → P u) → going_on others r ≡ Ok u → P u
-  others_hold others (Ok t) u all h = all t refl h
-  others_hold others (Err fault) u all h = cc
-
-  pub payloads_hold : (n : ℕ) (s u : S) (ps : List (List ℕ)) → P s → after_payloads after n s ps ≡ Ok u → P u
-  payloads_hold n s u [] k h = let same : s ≡ u = cc in subst P same k
-  payloads_hold n s u (p ∷ ps) k h =
-      others_hold (λ t. after_payloads after (n + 1) t ps) (after n s p) u
-      (λ t e more. payloads_hold (n + 1) t u ps (keeps n s t p k e) more) h
-
   first_holds : (ps : List (List ℕ)) (o : Option S) (u : S) → ((s : S) → o ≡ Some s → P s)
       → from_first after ps o ≡ Ok u → P u
-  first_holds ps (Some s) u all h = payloads_hold 2 s u ps (all s refl) h
+  first_holds ps (Some s) u all h = payloads_keep after P keeps 2 s u ps (all s refl) h
   first_holds ps None u all h = cc
 
   pub all_hold : (ps : List (List ℕ)) (u : S) → folded first after ps ≡ Ok u → P u

@@ -3,7 +3,7 @@ ghost use Rattle.std.specs.Prelude.{◌≡◌, ◌<◌, ◌≤◌, length, take,
 ghost use Rattle.store_engine.specs.RecordFold.{folded};
 ghost use Rattle.store_engine.specs.RecordOutcomes.{IsRecordFault, Reaches};
 
-use crate::engine::Engine;
+use crate::record_taker::RecordTaker;
 use std::alloc::Global;
 use store_records::RecordFault;
 use texts::Bytes;
@@ -19,10 +19,10 @@ const FIRST: u64 = 1;
 /// - `NoMemory`: only if memory ran out.
 ///
 /// It takes time in proportion to the payloads, beside what the records take.
-pub fn reopen<E: Engine>(alloc: Global, records: &[Bytes]) -> Result<E, RecordFault>
+pub fn reopen<T: RecordTaker>(alloc: Global, records: &[Bytes]) -> Result<T, RecordFault>
     ensures { MatchResult result
-        (λ e. folded E.first E.after records.now ≡ Ok (E.standing e))
-        (IsRecordFault (folded E.first E.after records.now)) }
+        (λ e. folded T.first T.after records.now ≡ Ok (T.standing e))
+        (IsRecordFault (folded T.first T.after records.now)) }
 {
     reopen_first(alloc, records, records.len())
 }
@@ -30,62 +30,62 @@ pub fn reopen<E: Engine>(alloc: Global, records: &[Bytes]) -> Result<E, RecordFa
 /// What the first `kept` payloads of a store represent. [`go_on`] opens the others.
 ///
 /// The refusals are those of [`reopen`] over all payloads, if one of the first `kept` is at fault.
-pub fn reopen_first<E: Engine>(
+pub fn reopen_first<T: RecordTaker>(
     alloc: Global,
     records: &[Bytes],
     kept: usize,
-) -> Result<E, RecordFault>
+) -> Result<T, RecordFault>
     requires some { 0 < length records.now → 0 < kept }
     requires within { kept ≤ length records.now }
     ensures stands { MatchResult result
-        (λ e. folded E.first E.after (take kept records.now) ≡ Ok (E.standing e))
-        (IsRecordFault (folded E.first E.after records.now)) }
-    ensures count { IfOk result (λ e. E.changes_of (E.standing e) ≤ kept) }
+        (λ e. folded T.first T.after (take kept records.now) ≡ Ok (T.standing e))
+        (IsRecordFault (folded T.first T.after records.now)) }
+    ensures count { IfOk result (λ e. T.changes_of (T.standing e) ≤ kept) }
 {
     if records.is_empty() {
         return Err(RecordFault::BadRecord { number: FIRST });
     }
-    let mut engine = E::begin(alloc, records[0].as_slice())?;
-    take_records(alloc, records, 1, kept, &mut engine)?;
-    Ok(engine)
+    let mut taker = T::begin(alloc, records[0].as_slice())?;
+    take_records(alloc, records, 1, kept, &mut taker)?;
+    Ok(taker)
 }
 
 /// Goes on from what the first `kept` payloads of a store represent, to what all of them represent.
 ///
-/// The refusals are those of [`reopen`] over all payloads. Of the engine no more is said then than at any time.
-pub fn go_on<E: Engine>(
+/// The refusals are those of [`reopen`] over all payloads. Of the taker no more is said then than at any time.
+pub fn go_on<T: RecordTaker>(
     alloc: Global,
     records: &[Bytes],
     kept: usize,
-    engine: &mut E,
+    taker: &mut T,
 ) -> Result<(), RecordFault>
     requires within { kept ≤ length records.now }
-    requires stood { folded E.first E.after (take kept records.now) ≡ Ok (E.standing engine.old) }
-    requires count { E.changes_of (E.standing engine.old) ≤ kept }
-    ensures stands { Reaches result (folded E.first E.after records.now) (E.standing engine.new) }
+    requires stood { folded T.first T.after (take kept records.now) ≡ Ok (T.standing taker.old) }
+    requires count { T.changes_of (T.standing taker.old) ≤ kept }
+    ensures stands { Reaches result (folded T.first T.after records.now) (T.standing taker.new) }
 {
-    take_records(alloc, records, kept, records.len(), engine)
+    take_records(alloc, records, kept, records.len(), taker)
 }
 
 // Goes on by the records from the one place on, up to the other.
-fn take_records<E: Engine>(
+fn take_records<T: RecordTaker>(
     alloc: Global,
     records: &[Bytes],
     from: usize,
     to: usize,
-    engine: &mut E,
+    taker: &mut T,
 ) -> Result<(), RecordFault>
     requires order { from ≤ to }
     requires within { to ≤ length records.now }
-    requires stood { folded E.first E.after (take from records.now) ≡ Ok (E.standing engine.old) }
-    requires count { E.changes_of (E.standing engine.old) ≤ from }
+    requires stood { folded T.first T.after (take from records.now) ≡ Ok (T.standing taker.old) }
+    requires count { T.changes_of (T.standing taker.old) ≤ from }
     ensures stands { MatchResult result
-        (λ _. folded E.first E.after (take to records.now) ≡ Ok (E.standing engine.new))
-        (IsRecordFault (folded E.first E.after records.now)) }
-    ensures count { IfOk result (λ _. E.changes_of (E.standing engine.new) ≤ to) }
+        (λ _. folded T.first T.after (take to records.now) ≡ Ok (T.standing taker.new))
+        (IsRecordFault (folded T.first T.after records.now)) }
+    ensures count { IfOk result (λ _. T.changes_of (T.standing taker.new) ≤ to) }
 {
     for at in from..to {
-        engine.take(alloc, at as u64 + 1, records[at].as_slice())?;
+        taker.take(alloc, at as u64 + 1, records[at].as_slice())?;
     }
     Ok(())
 }

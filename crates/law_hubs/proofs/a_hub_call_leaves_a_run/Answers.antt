@@ -1,4 +1,4 @@
-use Rattle.hub_session.specs.contracts.instance.HubSessionStoredSession.TheImpl.{ghosts as hubs}
+use Rattle.hub_session.specs.HubGhosts.{hubs}
 use Rattle.law_stores.proofs.CallsAreRuns.{leaves_first_lines, finishes_lines}
 use Rattle.law_hubs.proofs.HubsApplied.{applies_over}
 use Rattle.law_hubs.proofs.a_hub_call_leaves_a_run.Goals as goal

@@ -1,6 +1,6 @@
 use Rattle.std.proofs.Common.{ap, ◌∙◌}
 use Rattle.edit_journal.specs.Pieces.{lines_of}
-use Rattle.hub_session.specs.contracts.instance.HubSessionStoredSession.TheImpl.{ghosts as hubs}
+use Rattle.hub_session.specs.HubGhosts.{hubs}
 use Rattle.law_stores.proofs.CutTexts.{lines_joined}
 use Rattle.law_stores.proofs.StoresMeet.{meet_again}
 use Rattle.law_hubs.proofs.HubsApplied.{hubs_alike}

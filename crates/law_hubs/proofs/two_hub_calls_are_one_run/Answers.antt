@@ -1,5 +1,5 @@
 use Rattle.hub_session.specs.AnswerSteps.{refused_stays}
-use Rattle.hub_session.specs.contracts.instance.HubSessionStoredSession.TheImpl.{ghosts as hubs}
+use Rattle.hub_session.specs.HubGhosts.{hubs}
 use Rattle.law_stores.proofs.CallsAreRuns.{goes_on_from_image, goes_on_from_end}
 use Rattle.law_hubs.proofs.HubsApplied.{applies_over, hubs_alike}
 use Rattle.law_hubs.proofs.two_hub_calls_are_one_run.Goals as goal

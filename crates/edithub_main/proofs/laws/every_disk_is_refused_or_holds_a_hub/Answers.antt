@@ -1,5 +1,5 @@
 use Rattle.store_run.proofs.AnyBytes.{refused_or_in_step, never_both}
-use Rattle.hub_session.specs.contracts.instance.HubSessionStoredSession.TheImpl.{ghosts as hubs}
+use Rattle.hub_session.specs.HubGhosts.{hubs}
 use Rattle.edithub_main.specs.HubStores.{IsHubStateInStep}
 use Rattle.edithub_main.proofs.HubRefusals.{known}
 use Rattle.edithub_main.proofs.HubsInStep.{hub_in_step}

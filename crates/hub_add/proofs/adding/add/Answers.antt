@@ -35,7 +35,7 @@ returns-in-Ok-clause-stops g c =
     let o = c.in-Ok.ensures.opened store in
     let before = store.payloads in
     let none = no_version before store.state store.version store.stands in
-    let stood : hub_stands_for before ≡ Ok (hub_state_of made.session.hub, None) =
+    let stood : hub_stands_for before ≡ Ok (hub_state_of made.session.engine.hub, None) =
     store.stands ∙ ap (λ (v : Option (List ℕ)). Ok (store.state, v)) none ∙ ap (λ (t : HubState). Ok (t, None)) (sym o.state_is) in
     let here = subst (λ (t : HubState). AddEnds g.S.Source g.K.Sink disk (devices_of s k d1) (devices_of s' k' d') before t status) o.state_is (c.add_opened.ensures.ends before o.stands stood) in
     ends_behind g.S.Source g.K.Sink disk hold reads g.met.D.Disk.only_now before store.state s s' k k' d d1 d' status c.in-Ok.ensures.opening here

@@ -19,7 +19,7 @@ use Rattle.store_run.specs.Devices.{devices_of}
 
 pub add_program-requires-clause-joins : goal.add_program-requires-clause-joins
 add_program-requires-clause-joins g c =
-    let forms = forms_of_lenses c.args.session.now.hub.lenses in
+    let forms = forms_of_lenses c.args.engine.now.hub.lenses in
     let lenses = ap forms_of_lenses (rw c.hub-2.ensures at c.lenses.ensures.lenses) in
     let r = subst (λ fs. ReadsView g.S.Source c.args.source.now c.read_view.new.source fs (program_tree c.in-Ok.accepted.program) (form_tree c.in-Ok.accepted.lens)) lenses c.in-Ok.ensures.script in
     added_joins forms (program_part r.bytes) (form_tree c.in-Ok.accepted.lens) r.accepted.has_lens
@@ -29,7 +29,7 @@ returns-in-Ok-clause-ends g c =
     let disk = g.D.Disk in
     let hold = images_held disk g.met.D.Disk.content_is_image in
     let reads = reads_held disk in
-    let state = hub_state_of c.args.session.now.hub in
+    let state = hub_state_of c.args.engine.now.hub in
     let accepted = c.in-Ok.accepted in
     let lenses = ap forms_of_lenses (rw c.hub-2.ensures at c.lenses.ensures.lenses) in
     let r = subst (λ fs. ReadsView g.S.Source c.args.source.now c.read_view.new.source fs (program_tree accepted.program) (form_tree accepted.lens)) lenses c.in-Ok.ensures.script in
@@ -45,7 +45,7 @@ returns-in-Err-Refused-clause-ends g c =
     let disk = g.D.Disk in
     let hold = images_held disk g.met.D.Disk.content_is_image in
     let reads = reads_held disk in
-    let state = hub_state_of c.args.session.now.hub in
+    let state = hub_state_of c.args.engine.now.hub in
     let lenses = ap forms_of_lenses (rw c.hub-2.ensures at c.lenses.ensures.lenses) in
     let unread = rw c.in-Err-Refused.field-0-is at c.in-Err-Refused.ensures.script in
     let r = subst (λ fs. ReadsRefusedView g.S.Source c.args.source.now c.read_view.new.source fs c.in-Err-Refused.refused) lenses unread in
@@ -59,7 +59,7 @@ returns-in-Err-Stopped-clause-ends g c =
     let disk = g.D.Disk in
     let hold = images_held disk g.met.D.Disk.content_is_image in
     let reads = reads_held disk in
-    let state = hub_state_of c.args.session.now.hub in
+    let state = hub_state_of c.args.engine.now.hub in
     let lenses = ap forms_of_lenses (rw c.hub-2.ensures at c.lenses.ensures.lenses) in
     let unread = rw c.in-Err-Stopped.field-0-is at c.in-Err-Stopped.ensures.script in
     let r = subst (λ fs. ReadsFront (view_part fs) g.S.Source c.args.source.now c.read_view.new.source c.in-Err-Stopped.fault) lenses unread in

@@ -8,10 +8,10 @@ use Rattle.store_engine.proofs.reopening.take_records.Goals as goal
 
 pub loop-at-preserved : goal.loop-at-preserved
 loop-at-preserved g c =
-    let e = g.E.Engine in
+    let e = g.T.RecordTaker in
     let l = c.loop-at in
     let ps = c.args.records.now in
-    let s = e.standing l.engine in
+    let s = e.standing l.taker in
     let within : l.at < length ps = omega (arith, c.loop-at-test.true, c.requires.within) in
     let next = next_stands e.first e.after l.at ps c.index-records-at.result s within c.index-records-at.is l.invariant.stood in
     let taken = subst (λ (x : List ℕ). folded e.first e.after (take (l.at + 1) ps) ≡ e.after (l.at + 1) s x) (sym c.as_slice.ensures) next in
@@ -22,11 +22,11 @@ loop-at-preserved g c =
 
 pub returns-in_err-take-clause-stands : goal.returns-in_err-take-clause-stands
 returns-in_err-take-clause-stands g c =
-    let e = g.E.Engine in
+    let e = g.T.RecordTaker in
     let l = c.loop-at in
     let ps = c.args.records.now in
     let fault = c.in_err-take.field-0.0 in
-    let s = e.standing l.engine in
+    let s = e.standing l.taker in
     let within : l.at < length ps = omega (arith, c.loop-at-test.true, c.requires.within) in
     let next = next_stands e.first e.after l.at ps c.index-records-at.result s within c.index-records-at.is l.invariant.stood in
     let taken = subst (λ (x : List ℕ). folded e.first e.after (take (l.at + 1) ps) ≡ e.after (l.at + 1) s x) (sym c.as_slice.ensures) next in
