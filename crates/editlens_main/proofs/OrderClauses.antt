@@ -24,7 +24,7 @@ use Rattle.store_new.specs.Import.{import_command}
 use Rattle.store_new.specs.Init.{init_command}
 use Rattle.store_session.specs.Journals.{IsStateInStep}
 use Rattle.store_session.specs.StoredStates.{StoredState}
-use Rattle.store_session.specs.contracts.instance.StoreSessionStoredSession.TheImpl.{ghosts as sessions}
+use Rattle.store_session.specs.SessionGhosts.{sessions}
 use Rattle.store_session.proofs.StatesInStep.{stored_sound}
 use Rattle.editlens_main.specs.Commands.{reads_source, uses_disk}
 use Rattle.editlens_main.specs.Generates.{Generates}

@@ -17,7 +17,7 @@ use Rattle.run_scripts.specs.ScriptEnds.{Stops, Reports, IsComplete}
 use Rattle.run_scripts.specs.declared.script_state.ScriptState as OfScript
 use Rattle.run_scripts.proofs.Complete.{complete}
 use Rattle.store_session.specs.StoredStates.{StoredState}
-use Rattle.store_session.specs.contracts.instance.StoreSessionStoredSession.TheImpl.{ghosts as sessions}
+use Rattle.store_session.specs.SessionGhosts.{sessions}
 use Rattle.store_undo.specs.Undoing.{Undoing}
 use Rattle.store_undo.specs.contracts.instance.PairUndoUndoneSession.TheImpl.{ghosts as undone_pairs}
 use Rattle.store_run.specs.UndoCall.{UndoHasNoRoom, IsUndoCauseInRoom}

@@ -7,7 +7,7 @@ use Rattle.lens_io.specs.declared.sink.Sink as OfSink
 use Rattle.lens_io.specs.declared.source.Source as OfSource
 use Rattle.store_session.specs.Journals.{IsStateInStep, IsJournalRun}
 use Rattle.store_session.specs.StoredStates.{StoredState}
-use Rattle.store_session.specs.contracts.instance.StoreSessionStoredSession.TheImpl.{ghosts as sessions}
+use Rattle.store_session.specs.SessionGhosts.{sessions}
 use Rattle.store_run.specs.Applies.{Applies}
 use Rattle.store_run.specs.Devices.{Devices}
 use Rattle.store_run.specs.Packs.{Packs}

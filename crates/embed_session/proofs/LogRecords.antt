@@ -20,7 +20,7 @@ use Rattle.lens_syntax.specs.Programs.{ProgramCause, too_long, bounded, unbounde
 use Rattle.program_terms.specs.Terms.{ProgramTree}
 use Rattle.store_records.specs.declared.record_fault.RecordFault.{RecordFault}
 use Rattle.store_records.specs.declared.record_fault.RecordFault.TheVariants as record_fault
-use Rattle.store_session.specs.ReopenOutcomes.{IsReopenFault}
+use Rattle.store_engine.specs.RecordOutcomes.{IsRecordFault}
 use Rattle.store_session.specs.Stands.{Standing, stands, step_of}
 use Rattle.store_session.specs.Standings.{standing}
 use Rattle.store_session.specs.Written.{the_change, the_snapshot, HasRecord}
@@ -188,7 +188,7 @@ not_both x fault r h k = cc
 same_standing : (x y : Standing) (r : Result Standing RecordFault) → r ≡ Ok x → r ≡ Ok y → y ≡ x
 same_standing x y r h k = cc
 
-no_fault : (records : List (List ℕ)) (x : Standing) (why : RecordFault) → stands records ≡ Ok x → IsReopenFault (stands records) why → why ≡ record_fault.NoMemory
+no_fault : (records : List (List ℕ)) (x : Standing) (why : RecordFault) → stands records ≡ Ok x → IsRecordFault (stands records) why → why ≡ record_fault.NoMemory
 no_fault records x (record_fault.BadRecord n) h k = absurd (not_both x (record_fault.BadRecord n) (stands records) h k)
 no_fault records x (record_fault.NotConsistent n) h k = absurd (not_both x (record_fault.NotConsistent n) (stands records) h k)
 no_fault records x record_fault.NoMemory h k = refl

@@ -17,7 +17,7 @@ use Rattle.lens_core.specs.Translation.{translate}
 use Rattle.lens_forms.specs.Forms.{FormTree, left_type, right_type}
 use Rattle.store_records.specs.declared.record_fault.RecordFault.{RecordFault}
 use Rattle.store_records.specs.declared.record_fault.RecordFault.TheVariants as record_fault
-use Rattle.store_session.specs.ReopenOutcomes.{IsReopenFault}
+use Rattle.store_engine.specs.RecordOutcomes.{IsRecordFault}
 use Rattle.store_session.specs.Stands.{stands}
 use Rattle.store_session.specs.Standings.{standing}
 use Rattle.texts.specs.declared.side.Side.{Side}
@@ -146,7 +146,7 @@ pub record IsStanding (records : List (List ℕ)) (r : Running) : Type 0 where
 
 -- the first record that is at fault has this fault, which is not that memory ran out
 pub record IsRefusedLog (records : List (List ℕ)) (why : RecordFault) : Type 0 where
-  pub is_fault : IsReopenFault (stands records) why
+  pub is_fault : IsRecordFault (stands records) why
   pub known : why ≡ record_fault.NoMemory → ⊥
 
 -- the session for which the records stand, or why there is none

@@ -1,11 +1,10 @@
 //! The session for which the records of a log stand, or why they stand for none.
-ghost use Rattle.std.specs.Prelude.{◌≡◌, ℕ, List, Ok, Some, IfOk, MatchResult};
+ghost use Rattle.std.specs.Prelude.{◌≡◌, ℕ, List, Ok, IfOk, MatchResult};
 ghost use Rattle.edit_journal.specs.Pieces.{texts_of};
 ghost use Rattle.edit_session.specs.Views.{triple_tree};
 ghost use Rattle.run_answers.specs.ItemRuns.{IsInStepFor};
 ghost use Rattle.lens_forms.specs.Forms.{form_tree};
-ghost use Rattle.store_records.specs.StoredLens.{stored_lens};
-ghost use Rattle.store_session.specs.ReopenOutcomes.{IsReopenFault};
+ghost use Rattle.store_engine.specs.RecordOutcomes.{IsRecordFault};
 ghost use Rattle.store_session.specs.Stands.{stands};
 ghost use Rattle.store_session.specs.Standings.{standing};
 ghost use Rattle.embed_session.specs.Embedded.{IsReopened};
@@ -17,7 +16,7 @@ use crate::running::Running;
 use crate::shared::SharedLens;
 use lens_io::Payloads;
 use std::alloc::{AllocError, Global};
-use store_records::{RecordFault, StoredLens, stored_lens, version_payload};
+use store_records::{RecordFault, version_payload};
 use store_session::OpenedRecords;
 
 // The version of a log whose version record is still to be stored.
@@ -75,30 +74,12 @@ fn open_records(
     ensures stands { MatchResult result
         (λ o. stands payloads.now
         ≡ Ok (standing (form_tree o.session.lens.typed) (triple_tree o.session.triple) o.count o.version))
-        (IsReopenFault (stands payloads.now)) }
+        (IsRecordFault (stands payloads.now)) }
     ensures in_step { IfOk result
         (λ o. IsInStepFor (form_tree o.session.lens.typed) (triple_tree o.session.triple)) }
 {
-    match stored_lens(alloc, payloads) {
-        Ok(stored) => open_with(alloc, &stored, payloads),
-        Err(fault) => Err(fault),
-    }
-}
-
-#[tactic(auto, using(lens_flat::proofs::FormLenses::is_lens_of))]
-fn open_with(
-    alloc: Global,
-    stored: &StoredLens,
-    payloads: &Payloads,
-) -> Result<OpenedRecords<SharedLens>, RecordFault>
-    requires stored { stored_lens payloads.now ≡ Some (form_tree stored.now.typed, stored.now.version) }
-    ensures stands { MatchResult result
-        (λ o. stands payloads.now
-        ≡ Ok (standing (form_tree o.session.lens.typed) (triple_tree o.session.triple) o.count o.version))
-        (IsReopenFault (stands payloads.now)) }
-    ensures in_step { IfOk result
-        (λ o. IsInStepFor (form_tree o.session.lens.typed) (triple_tree o.session.triple)) }
-{
-    let lens = SharedLens::compile(alloc, &stored.typed)?;
-    store_session::reopen(alloc, lens, stored, payloads)
+    let opened: OpenedRecords<SharedLens> = store_engine::reopen(alloc, payloads.as_slice())?;
+    // The proof needs that the session is in step, which this call says.
+    let _comp = opened.session.comp();
+    Ok(opened)
 }

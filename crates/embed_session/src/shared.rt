@@ -10,6 +10,7 @@ use lens_types::Typed;
 use std::alloc::{AllocError, Global};
 use std::marker::Model;
 use std::rc::Rc;
+use store_session::CompiledLens;
 use texts::Side;
 
 /// A lens that was compiled once, for all sessions over it. Contracts see it as its form.
@@ -106,5 +107,22 @@ impl EditLens for SharedLens {
         word: &Word,
     ) -> Result<Carried, CarryFault> {
         self.flat.carry(alloc, side, comp, word)
+    }
+}
+
+impl CompiledLens for SharedLens {
+    ghost use Rattle.lens_flat.proofs.FormLenses.{own_lens};
+    ghost use Rattle.lens_forms.specs.Forms.{form_tree};
+
+    ghost form = { λ l. form_tree l.typed };
+
+    ghost means = { λ l. own_lens (form_tree l.typed) };
+
+    fn compiled(alloc: Global, typed: &Typed) -> Result<SharedLens, AllocError> {
+        SharedLens::compile(alloc, typed)
+    }
+
+    fn typed_form(&self) -> &Typed {
+        self.typed()
     }
 }

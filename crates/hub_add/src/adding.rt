@@ -26,8 +26,8 @@ use hub_session::{HubEngine, HubSession};
 use lens_io::{Disk, Sink, Source};
 use program_accepted::Accepted;
 use std::alloc::{AllocError, Global};
-use store_new::status_at;
 use store_engine::Engine;
+use store_new::status_at;
 use store_run::{MoreText, StoredSession, open_store, refuse_store, store_last};
 
 /// Opens the store of a hub, and adds the view of the program of a script.
@@ -93,7 +93,14 @@ pub fn add<S: Source, K: Sink, D: Disk>(
         Ok(store) => {
             let mut store = store;
             let open = &mut store;
-            add_opened(alloc, &mut open.session.engine, source, &mut open.log, sink, disk)
+            add_opened(
+                alloc,
+                &mut open.session.engine,
+                source,
+                &mut open.log,
+                sink,
+                disk,
+            )
         }
         Err(fault) => refuse_store(alloc, fault, sink),
     }

@@ -12,7 +12,8 @@ use Rattle.hub_records.specs.HubStands.{HubStanding, hub_after, hub_first}
 use Rattle.hub_records.proofs.HubGroups.{line_fits}
 use Rattle.hub_records.proofs.WrittenStands as written
 use Rattle.hub_session.specs.HubAnswers.{HubJournalItem, stored_hub_answer}
-use Rattle.hub_session.specs.HubStates.{state_of_hub, hub_count, no_version_due, hub_stands_for, ReadsAsHubChange, IsHubStep}
+use Rattle.hub_session.specs.HubStates.{state_of_hub, hub_count, no_version_due, hub_stands_for, ReadsAsHubChange}
+use Rattle.hub_session.specs.HubStates.{IsHubStep}
 use Rattle.hub_session.specs.HubStates.{HasHubSnapshot, hub_snapshot_text}
 use Rattle.hub_session.specs.AnswerSteps.{Steps, kinds}
 

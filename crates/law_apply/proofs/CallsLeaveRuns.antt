@@ -16,8 +16,8 @@ use Rattle.lens_forms.specs.Typing.{is_typed}
 use Rattle.store_session.specs.Journals.{accepted_changes, IsStateInStep, IsJournalRun}
 use Rattle.store_session.specs.StoredStates.{StoredState, change_text, state_text}
 use Rattle.store_session.specs.SessionStates.{session_state}
-use Rattle.store_session.specs.contracts.instance.StoreSessionStoredSession.TheImpl.{ghosts as sessions}
-use Rattle.store_session.specs.declared.session.StoreSession.{StoreSession}
+use Rattle.store_session.specs.SessionGhosts.{sessions}
+use Rattle.store_session.specs.SessionGhosts.{StoreSession}
 use Rattle.store_session.proofs.JournalRuns.{runs_alike}
 use Rattle.store_session.proofs.StatesInStep.{stored_sound}
 use Rattle.store_run.specs.Applies.{UnopenedApply}
@@ -39,7 +39,7 @@ module _ (before : StoreParts) (lines : List Line) (steps : List (StoredState ×
   sound = stored_sound before.payloads before.state before.version before.stands
 
   pub journal_run : IsJournalRun before.state 0 lines steps
-  journal_run = runs_alike (λ (s : StoreSession). session_state s.session) before.state 0 lines steps sound.0 sound.1 is_run
+  journal_run = runs_alike (λ (s : StoreSession). session_state s.engine.opened.session) before.state 0 lines steps sound.0 sound.1 is_run
 
   -- the payloads stand for the last state of the run
   abbrev pub holds_run : (after : StoreParts) → after.state ≡ last_stored before.state steps → with_version after ≡ with_version before ++ kept_of steps

@@ -6,8 +6,8 @@ use Rattle.run_answers.specs.ItemRuns.{JournalItem, JournalAnswer}
 use Rattle.store_run.specs.declared.session.StoredAnswer.{StoredAnswer}
 use Rattle.store_session.specs.SessionStates.{session_state}
 use Rattle.store_session.specs.StoredStates.{StoredState, state_with, stored_answer, stored_session, taken}
-use Rattle.store_session.specs.contracts.instance.StoreSessionStoredSession.TheImpl.{ghosts as sessions}
-use Rattle.store_session.specs.declared.session.StoreSession.{StoreSession}
+use Rattle.store_session.specs.SessionGhosts.{sessions}
+use Rattle.store_session.specs.SessionGhosts.{StoreSession}
 use Rattle.law_stores.specs.SessionRuns.{IsNumberedAlike}
 
 abbrev Made : Type 0
@@ -29,4 +29,4 @@ numbered_alike : {A : Type 0} (view : A → StoredState) → IsNumberedAlike (st
 numbered_alike view s n m line made h = item_alike s n m (change_of_line line) (taken s (change_of_line line)) made h
 
 pub sessions_alike : IsNumberedAlike sessions
-sessions_alike = numbered_alike (λ (s : StoreSession). session_state s.session)
+sessions_alike = numbered_alike (λ (s : StoreSession). session_state s.engine.opened.session)

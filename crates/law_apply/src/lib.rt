@@ -20,7 +20,7 @@ ghost use Rattle.law_apply.specs.StoreRuns.{StoreParts, HoldsRun, AreOneRun};
 ghost use Rattle.law_apply.specs.TwoCalls.{parts_of, LeavesRun, FinishesRun, StaysUnopened, ContinuesRun};
 ghost use Rattle.law_stores.specs.CutStores.{EndsALine};
 ghost use Rattle.law_stores.specs.SessionRuns.{IsNumberedAlike};
-ghost use Rattle.store_session.specs.contracts.instance.StoreSessionStoredSession.TheImpl.{ghosts as sessions};
+ghost use Rattle.store_session.specs.SessionGhosts.{sessions};
 ghost use Rattle.store_run.specs.Devices.{Devices};
 
 use lens_io::{Disk, Sink, Source};

@@ -20,8 +20,8 @@ use Rattle.store_run.specs.StoreRuns.{kept_of, last_stored, text_of}
 use Rattle.store_session.specs.Journals.{IsJournalRun}
 use Rattle.store_session.specs.SessionStates.{session_state}
 use Rattle.store_session.specs.StoredStates.{StoredState, opened_as, state_text, state_with}
-use Rattle.store_session.specs.contracts.instance.StoreSessionStoredSession.TheImpl.{ghosts as sessions}
-use Rattle.store_session.specs.declared.session.StoreSession.{StoreSession}
+use Rattle.store_session.specs.SessionGhosts.{sessions}
+use Rattle.store_session.specs.SessionGhosts.{StoreSession}
 use Rattle.store_session.proofs.JournalRuns.{runs_alike}
 use Rattle.store_session.proofs.StatesInStep.{stored_sound}
 use Rattle.law_one_text.proofs.PairReports.{run_is_report}
@@ -47,7 +47,7 @@ module _ {S K D : Type 0} (source : OfSource.Ghosts S) (sink : OfSink.Ghosts K) 
     journal_run : IsJournalRun start 0 (lines_of c.bytes) c.steps
     journal_run =
         let sound = stored_sound store.payloads start None store.stands in
-        runs_alike (λ (s : StoreSession). session_state s.session) start 0 (lines_of c.bytes) c.steps sound.0 sound.1 c.is_run
+        runs_alike (λ (s : StoreSession). session_state s.engine.opened.session) start 0 (lines_of c.bytes) c.steps sound.0 sound.1 c.is_run
 
     text_is : text_of c.steps ++ state_text (last_stored start c.steps) ≡ text_from made.form (triple_at_first made.form) journal_run.journal
     text_is =

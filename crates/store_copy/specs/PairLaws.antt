@@ -2,7 +2,7 @@
 -- Lemmas, which stand here since the laws of an `impl` cite them.
 use Rattle.std.proofs.Common.{◌≡◌, ◌⊎◌, inl, inr, ℕ, ◌+◌, List, [], ◌∷◌, ◌++◌, length, Option, Some, None, Result}
 use Rattle.std.proofs.Common.{Ok, Err, true, refl, ap, subst, ◌∙◌}
-use Rattle.std.specs.Prelude.{option_to_list}
+use Rattle.std.specs.Prelude.{option_map, option_to_list}
 use Rattle.edit_session.specs.Step.{first}
 use Rattle.lens_core.specs.Complements.{missing}
 use Rattle.lens_forms.specs.Forms.{FormTree, left_type, right_type}
@@ -10,30 +10,19 @@ use Rattle.lens_forms.specs.Typing.{is_typed}
 use Rattle.store_records.specs.RecordJson.{record_in, version_record}
 use Rattle.store_records.specs.StoredLens.{lens_and_version}
 use Rattle.store_records.specs.declared.record_fault.RecordFault.{RecordFault}
-use Rattle.store_session.specs.Appending.{stands_append}
+use Rattle.store_engine.specs.FoldLaws.{one_more}
+use Rattle.store_engine.specs.RecordFold.{from_first}
+use Rattle.store_session.specs.SameForms.{same_form}
 use Rattle.store_session.specs.Standings.{standing}
-use Rattle.store_session.specs.Stands.{Standing, after_payloads, after_record, at_start, from_opening, going_on, stands}
+use Rattle.store_session.specs.Stands.{Standing, after_payload, after_record, at_start, first_standing, stands}
 use Rattle.store_session.specs.StoredStates.{HasSnapshot, StoredState, changes_counted, counted, opened_as}
 use Rattle.store_session.specs.StoredStates.{snapshot_text, stands_for, state_of, version_for, version_text}
-use Rattle.store_session.specs.TypedStores.{first_typed, form_stays}
+use Rattle.store_session.specs.TypedStores.{first_typed}
 use Rattle.store_session.specs.VersionRecords.{version_in}
 use Rattle.store_session.specs.VersionsOfStores.{version_stood}
 use Rattle.store_session.specs.Written.{the_snapshot}
 use Rattle.store_session.specs.WrittenStands.{one_stands}
 use Rattle.store_copy.specs.PairBeginnings.{pair_beginning, version_due}
-
--- ---- the form of what stands is that of the first record
-
-later_form : (others : Standing → Result Standing RecordFault) (r : Result Standing RecordFault) (s u : Standing)
-    → ((t : Standing) → r ≡ Ok t → others t ≡ Ok u → s.form ≡ u.form) → going_on others r ≡ Ok u → s.form ≡ u.form
-later_form others (Ok t) s u all h = all t refl h
-later_form others (Err fault) s u all h = cc
-
-pub same_form : (n : ℕ) (s u : Standing) (ps : List (List ℕ)) → after_payloads n s ps ≡ Ok u → s.form ≡ u.form
-same_form n s u [] h = let same : s ≡ u = cc in ap (λ (x : Standing). x.form) same
-same_form n s u (p ∷ ps) h =
-    later_form (λ t. after_payloads (n + 1) t ps) (after_record n s (record_in p)) s u
-    (λ t e more. form_stays n s t (record_in p) e ∙ same_form (n + 1) t u ps more) h
 
 -- ---- what a new store begins with
 
@@ -43,7 +32,7 @@ first_at l version = standing l (first (left_type l) (right_type l) (missing l))
 
 module _ (p : List ℕ) (ps : List (List ℕ)) (x : FormTree × ℕ) (is : lens_and_version p ≡ Some x) where
   alone : stands (p ∷ []) ≡ Ok (first_at x.0 x.1)
-  alone = ap (from_opening []) is
+  alone = ap (λ o. from_first after_payload [] (option_map at_start o)) is
 
   -- the version record is stored behind a first record that says version 1
   begins_old : x.1 ≡ 1 → stands (pair_beginning (p ∷ ps)) ≡ Ok (first_at x.0 2)
@@ -51,7 +40,7 @@ module _ (p : List ℕ) (ps : List (List ℕ)) (x : FormTree × ℕ) (is : lens_
       let due : option_to_list (version_due (lens_and_version p)) ≡ version_text ∷ [] =
       ap (λ o. option_to_list (version_due o)) is ∙ ap (λ v. option_to_list (version_for v)) one in
       ap (λ more. stands ((p ∷ []) ++ more)) due
-      ∙ stands_append (p ∷ []) version_text (first_at x.0 x.1) alone
+      ∙ one_more first_standing after_payload (p ∷ []) version_text (first_at x.0 x.1) alone
       ∙ ap (λ o. after_record (length (p ∷ []) + 1) (first_at x.0 x.1) o) version_in
       ∙ ap (λ v. after_record (length (p ∷ []) + 1) (first_at x.0 v) (Some version_record)) one
 
@@ -81,7 +70,7 @@ module _ (p : List ℕ) (ps : List (List ℕ)) (x : FormTree × ℕ) (is : lens_
 -- ---- what a compacted store stands for
 
 at_opening : (p : List ℕ) (ps : List (List ℕ)) (s : Standing) (o : Option (FormTree × ℕ)) → lens_and_version p ≡ o
-    → from_opening ps o ≡ Ok s → HasSnapshot (state_of s)
+    → from_first after_payload ps (option_map at_start o) ≡ Ok s → HasSnapshot (state_of s)
     → stands (pair_beginning (p ∷ ps) ++ snapshot_text (state_of s) ∷ []) ≡ Ok (standing s.form s.triple 0 2)
 at_opening p ps s (Some x) is h has = snapshot_behind p ps x is s (same_form 2 (at_start x) s ps h) has
 at_opening p ps s None is h has = cc

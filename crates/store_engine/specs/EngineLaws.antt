@@ -1,7 +1,7 @@
 -- The laws of a session over a store, from what each record of it makes. Lemmas, which stand here since the laws of an
 -- `impl` cite them.
-use Rattle.std.proofs.Common.{◌≡◌, ℕ, ◌+◌, List, [], ◌∷◌, ◌++◌, length, Option, Some, None, Result, Ok, Err, refl, sym, ap}
-use Rattle.std.proofs.Common.{subst, ◌∙◌}
+use Rattle.std.proofs.Common.{◌≡◌, ℕ, ◌+◌, List, [], ◌∷◌, ◌++◌, length, Option, Some, None, Result, Ok, Err, refl}
+use Rattle.std.proofs.Common.{sym, ap, subst, ◌∙◌}
 use Rattle.edit_journal.specs.declared.line.Line.{Line}
 use Rattle.store_records.specs.declared.record_fault.RecordFault.{RecordFault}
 use Rattle.store_run.specs.declared.session.StoredAnswer.{StoredAnswer}
@@ -89,7 +89,8 @@ module _ {S State : Type 0} (state_of : S → State) (version_due : S → Option
     (first : List ℕ → Option S) (after : ℕ → S → List ℕ → Result S RecordFault) (is_sound : S → Type 0)
     (begins : (p : List ℕ) (s : S) → first p ≡ Some s → is_sound s)
     (keeps : (n : ℕ) (s t : S) (p : List ℕ) → is_sound s → after n s p ≡ Ok t → is_sound t)
-    (answer : State → ℕ → Line → Option (State × StoredAnswer)) (is_step : State → ℕ → Line → State × StoredAnswer → Type 0)
+    (answer : State → ℕ → Line → Option (State × StoredAnswer))
+    (is_step : State → ℕ → Line → State × StoredAnswer → Type 0)
     (taken : (n : ℕ) (s : S) (t' : State) (k : ℕ) (line : Line) (a : StoredAnswer) (p : List ℕ) → is_sound s
     → version_due s ≡ None → answer (state_of s) k line ≡ Some (t', a) → is_step (state_of s) k line (t', a)
     → a.payload ≡ Some p → IsTaken state_of version_due changes_of after n s p t' (changes_of s + 1))

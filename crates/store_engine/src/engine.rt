@@ -14,8 +14,6 @@ use texts::Bytes;
 
 /// Documents that a store keeps in step: the answers to a journal, the texts that are stored, and the laws of their
 /// records.
-///
-/// A state is what of a standing the answers depend on: the documents with their lenses.
 pub trait Engine: RecordTaker {
     /// How many of the records are changes. Does not allocate.
     fn changes(&self) -> u64
@@ -38,15 +36,18 @@ pub trait Engine: RecordTaker {
         number: u64,
         line: &Line,
     ) -> Result<StoredAnswer, AllocError>
-        ensures answer { IfOk result (λ a. Self.answer (Self.state_of (Self.standing self.old)) number line.now
+        ensures answer { IfOk result (λ a.
+            Self.answer (Self.state_of (Self.standing self.old)) number line.now
             ≡ Some (Self.state_of (Self.standing self.new), a)) }
-        ensures step { IfOk result (λ a. Self.is_step (Self.state_of (Self.standing self.old)) number line.now
+        ensures step { IfOk result (λ a.
+            Self.is_step (Self.state_of (Self.standing self.old)) number line.now
             (Self.state_of (Self.standing self.new), a)) }
         ensures is_answer { IfOk result IsAnswer };
 
     /// The state lines. The only error is running out of memory.
     fn state_lines(&self, alloc: Global) -> Result<Bytes, AllocError>
-        ensures text { IfOk result (λ text. text ≡ Self.state_text (Self.state_of (Self.standing self.now))) }
+        ensures text { IfOk result (λ text.
+            text ≡ Self.state_text (Self.state_of (Self.standing self.now))) }
         ensures lines { IfOk result AreOtherLines };
 
     /// What a first record represents is sound.
@@ -65,13 +66,15 @@ pub trait Engine: RecordTaker {
     /// The payload of a change that was accepted makes its step, and counts one.
     ghost change_taken: { (n : ℕ) (s : Self.Standing) (t : Self.State) (k : ℕ) (line : Line)
         (a : StoredAnswer) (p : List ℕ) → Self.is_sound s → Self.version_due s ≡ None
-        → Self.answer (Self.state_of s) k line ≡ Some (t, a) → Self.is_step (Self.state_of s) k line (t, a)
+        → Self.answer (Self.state_of s) k line ≡ Some (t, a)
+        → Self.is_step (Self.state_of s) k line (t, a)
         → a.payload ≡ Some p
         → IsTaken Self.state_of Self.version_due Self.changes_of Self.after n s p
         t (Self.changes_of s + 1) };
 
     /// A snapshot leaves the state.
-    ghost snapshot_taken: { (n : ℕ) (s : Self.Standing) → Self.is_sound s → Self.version_due s ≡ None
+    ghost snapshot_taken: { (n : ℕ) (s : Self.Standing)
+        → Self.is_sound s → Self.version_due s ≡ None
         → Self.has_snapshot (Self.state_of s)
         → IsTaken Self.state_of Self.version_due Self.changes_of Self.after n s
         (Self.snapshot_text (Self.state_of s)) (Self.state_of s) (Self.changes_of s) };

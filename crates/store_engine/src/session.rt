@@ -42,19 +42,22 @@ impl<E: Engine> StoredSession for EngineSession<E> {
 
     ghost count_of = { λ ps. changes_in E.changes_of (folded E.first E.after ps) };
 
-    ghost stands_for = { λ ps. represented_as E.state_of E.version_due (folded E.first E.after ps) };
+    ghost stands_for = { λ ps.
+        represented_as E.state_of E.version_due (folded E.first E.after ps) };
 
     ghost version_stands = { laws.version_stands E.state_of E.version_due E.changes_of
         E.first E.after E.version_taken };
 
     ghost change_stands = { laws.change_stands E.state_of E.version_due E.changes_of
-        E.first E.after E.is_sound E.first_is_sound E.after_is_sound E.answer E.is_step E.change_taken };
+        E.first E.after E.is_sound E.first_is_sound E.after_is_sound
+        E.answer E.is_step E.change_taken };
 
     ghost version_counts = { laws.version_counts E.state_of E.version_due E.changes_of
         E.first E.after E.version_taken };
 
     ghost change_counts = { laws.change_counts E.state_of E.version_due E.changes_of
-        E.first E.after E.is_sound E.first_is_sound E.after_is_sound E.answer E.is_step E.change_taken };
+        E.first E.after E.is_sound E.first_is_sound E.after_is_sound
+        E.answer E.is_step E.change_taken };
 
     ghost snapshot_counts = { laws.snapshot_counts E.state_of E.version_due E.changes_of
         E.first E.after E.is_sound E.first_is_sound E.after_is_sound
@@ -96,7 +99,8 @@ fn open<E: Engine>(
     ensures stands { MatchResult result
         (λ o. represented_as E.state_of E.version_due (folded E.first E.after payloads.now)
         ≡ Ok (E.state_of (E.standing o.session.engine), o.version))
-        (IsReopenFault (represented_as E.state_of E.version_due (folded E.first E.after payloads.now))) }
+        (IsReopenFault
+        (represented_as E.state_of E.version_due (folded E.first E.after payloads.now))) }
     ensures count { IfOk result (λ o.
         o.count ≡ changes_in E.changes_of (folded E.first E.after payloads.now)) }
 {

@@ -2,11 +2,10 @@ pub mod AcceptedDepths
 pub mod AnswerLines
 pub mod AnswersMade
 pub mod Decimals
+pub mod FirstRecords
 pub mod JournalRuns
 pub mod LastTriple
 pub mod NoLineEnd
-pub mod Openings
-pub mod PartsStand
 pub mod RecordsTaken
 pub mod SnapshotParts
 pub mod StatesInStep

@@ -1,5 +1,5 @@
 -- What stands after a record that was taken from tokens.
-use Rattle.std.proofs.Common.{◌≡◌, ℕ, List, Option, Some, option_and_then, refl, ap, ◌∙◌}
+use Rattle.std.proofs.Common.{◌≡◌, ℕ, List, Some, option_and_then, refl, ap, ◌∙◌}
 use Rattle.serde_json.specs.Data.{Data}
 use Rattle.edit_module.specs.Changes.{ChangeTree}
 use Rattle.edit_journal.specs.EntryJson.{tree_of_text}

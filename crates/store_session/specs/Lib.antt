@@ -1,10 +1,10 @@
 pub mod AnswerSteps
-pub mod Appending
 pub mod ConsistencyDecided
 pub mod ConsistencyTest
 pub mod Journals
-pub mod PayloadLaws
-pub mod ReopenOutcomes
+pub mod RecordLaws
+pub mod SameForms
+pub mod SessionGhosts
 pub mod SessionStates
 pub mod Standings
 pub mod Stands

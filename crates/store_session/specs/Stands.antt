@@ -1,6 +1,6 @@
 -- What payloads stand for: a lens, a triple, a number of changes and a version; or the first record that is at fault.
--- Read it from the end: `stands`, `after_record` with a line for each kind of record, and `Standing`.
-use Rattle.std.specs.Prelude.{ℕ, ◌+◌, Bool, false, not, List, [], ◌∷◌, Option, Some, None, option_map, option_and_then}
+-- Read it from the end: `stands`, a fold over `after_record`, which has a line for each kind of record, and `Standing`.
+use Rattle.std.specs.Prelude.{ℕ, ◌+◌, Bool, false, not, List, Option, Some, None, option_map, option_and_then}
 use Rattle.std.specs.Prelude.{Result, Ok, Err, if◌then◌else◌, nat_eq}
 use Rattle.serde_json.specs.Data.{Data}
 use Rattle.value_json.specs.DocumentJson.{document_of}
@@ -9,6 +9,7 @@ use Rattle.lens_forms.specs.Forms.{FormTree, left_type, right_type}
 use Rattle.lens_core.specs.Complements.{missing}
 use Rattle.lens_core.specs.Translation.{translate}
 use Rattle.edit_session.specs.Step.{TripleTree, AllStepped, first, step_all}
+use Rattle.store_engine.specs.RecordFold.{folded}
 use Rattle.store_session.specs.ConsistencyTest.{is_consistent}
 use Rattle.store_records.specs.StoredComplements.{complement_of}
 use Rattle.store_records.specs.RecordJson.{RecordTree, version_record, change_record, snapshot_record, record_in}
@@ -65,17 +66,6 @@ after_record number s (Some (change_record change)) =
     if is_too_new change s.version then Err (BadRecord number) else after_step number s (step_of s.form s.triple change)
 after_record number s (Some (snapshot_record p)) = after_triple number s (triple_of s.form p)
 
--- the records from this number on, each from what stands after the one before it
-abbrev pub going_on : (Standing → Result Standing RecordFault) → Result Standing RecordFault
-    → Result Standing RecordFault
-going_on others (Ok s) = others s
-going_on others (Err fault) = Err fault
-
-abbrev pub after_payloads : ℕ → Standing → List (List ℕ) → Result Standing RecordFault
-after_payloads number s [] = Ok s
-after_payloads number s (p ∷ ps) =
-    going_on (λ t. after_payloads (number + 1) t ps) (after_record number s (record_in p))
-
 -- ---- all records
 
 -- the initial triple of a lens, before any change
@@ -83,11 +73,14 @@ abbrev pub at_start : FormTree × ℕ → Standing
 at_start o =
     record { form = o.0; triple = first (left_type o.0) (right_type o.0) (missing o.0); count = 0; version = o.1 }
 
-abbrev pub from_opening : List (List ℕ) → Option (FormTree × ℕ) → Result Standing RecordFault
-from_opening ps (Some o) = after_payloads 2 (at_start o) ps
-from_opening ps None = Err (BadRecord 1)
+-- what a payload represents as the first record
+abbrev pub first_standing : List ℕ → Option Standing
+first_standing payload = option_map at_start (lens_and_version payload)
 
--- what payloads stand for; the records are numbered from 1 on
+-- what the payload with this number makes of what the payloads before it represent
+abbrev pub after_payload : ℕ → Standing → List ℕ → Result Standing RecordFault
+after_payload number s payload = after_record number s (record_in payload)
+
+-- what payloads represent; the records are numbered from 1 on
 abbrev pub stands : List (List ℕ) → Result Standing RecordFault
-stands [] = Err (BadRecord 1)
-stands (p ∷ ps) = from_opening ps (lens_and_version p)
+stands payloads = folded first_standing after_payload payloads

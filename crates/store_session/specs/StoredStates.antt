@@ -16,11 +16,10 @@ use Rattle.lens_core.specs.Translation.{translate}
 use Rattle.lens_forms.specs.Forms.{FormTree, left_type, right_type}
 use Rattle.store_records.specs.RecordJson.{tree_of_version, tree_of_change_record, tree_of_snapshot}
 use Rattle.store_records.specs.declared.record_fault.RecordFault.{RecordFault}
-use Rattle.store_records.specs.declared.record_fault.RecordFault.TheVariants as of_records
 use Rattle.store_run.specs.declared.session.StoredAnswer.{StoredAnswer}
 use Rattle.store_run.specs.declared.session.ReopenFault.{ReopenFault}
-use Rattle.store_run.specs.declared.session.ReopenFault.TheVariants as of_stores
 use Rattle.store_run.specs.declared.session.StoredSession as OfSession
+use Rattle.store_engine.specs.Represented.{changes_in, represented_as}
 use Rattle.store_session.specs.Stands.{Standing, stands}
 
 -- the form of the lens, and the triple
@@ -45,23 +44,21 @@ version_text = compact_text tree_of_version
 abbrev pub version_for : ℕ → Option (List ℕ)
 version_for version = if nat_eq version 1 then Some version_text else None
 
--- the fault in the words of a store
-abbrev pub fault_of : RecordFault → ReopenFault
-fault_of (of_records.BadRecord number) = of_stores.BadRecord number
-fault_of (of_records.NotConsistent number) = of_stores.NotConsistent number
-fault_of of_records.NoMemory = of_stores.NoMemory
+abbrev pub due_of : Standing → Option (List ℕ)
+due_of s = version_for s.version
 
 abbrev pub opened_as : Result Standing RecordFault → Result (StoredState × Option (List ℕ)) ReopenFault
-opened_as (Ok s) = Ok (state_of s, version_for s.version)
-opened_as (Err fault) = Err (fault_of fault)
+opened_as r = represented_as state_of due_of r
 
 -- the state for which payloads stand, with the version record if it is not among them
 abbrev pub stands_for : List (List ℕ) → Result (StoredState × Option (List ℕ)) ReopenFault
 stands_for payloads = opened_as (stands payloads)
 
+abbrev pub count_in : Standing → ℕ
+count_in s = s.count
+
 abbrev pub counted : Result Standing RecordFault → ℕ
-counted (Ok s) = s.count
-counted (Err fault) = 0
+counted r = changes_in count_in r
 
 -- how many payloads are of changes
 abbrev pub changes_counted : List (List ℕ) → ℕ

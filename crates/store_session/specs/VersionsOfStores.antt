@@ -58,7 +58,7 @@ of_opening : (o : Option (List ℕ × ℕ)) (x : FormTree × ℕ) → ((y : List
 of_opening (Some y) x all h = subst IsVersion (of_form (form_of_text y.0) y.1 x h) (all y refl)
 of_opening None x all h = cc
 
-first_version : (p : List ℕ) (x : FormTree × ℕ) → lens_and_version p ≡ Some x → IsVersion x.1
+pub first_version : (p : List ℕ) (x : FormTree × ℕ) → lens_and_version p ≡ Some x → IsVersion x.1
 first_version p x h = of_opening (opening_of_payload p) x (by_tree (tree_of_text p)) h
 
 -- ---- the others
@@ -91,7 +91,7 @@ module _ (n : ℕ) (s u : Standing) where
   if_triple (Some t) v h = if_consistent (is_consistent s.form t.left t.comp t.right) t v h
   if_triple None v h = cc
 
-  record_version : (r : Option RecordTree) → IsVersion s.version → after_record n s r ≡ Ok u → IsVersion u.version
+  pub record_version : (r : Option RecordTree) → IsVersion s.version → after_record n s r ≡ Ok u → IsVersion u.version
   record_version None v h = cc
   record_version (Some version_record) v h = if_version (nat_eq s.version 1) h
   record_version (Some (change_record change)) v h =

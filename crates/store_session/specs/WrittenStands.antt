@@ -28,13 +28,14 @@ use Rattle.store_records.specs.declared.record_fault.RecordFault.TheVariants.{Ba
 use Rattle.store_records.proofs.ComplementsAreRead.{read_back}
 use Rattle.store_records.proofs.RecordsAreRead.{program_read, first_program_read, version_read, change_read}
 use Rattle.store_records.proofs.RecordsAreRead.{snapshot_read}
+use Rattle.store_engine.specs.FoldLaws.{one_more}
+use Rattle.store_engine.specs.RecordFold.{from_first}
 use Rattle.store_session.specs.ConsistencyTest.{is_consistent}
 use Rattle.store_session.specs.Stands.{Standing, step_of, is_too_new, after_step, triple_of, after_triple, after_record}
-use Rattle.store_session.specs.Stands.{at_start, from_opening, stands}
+use Rattle.store_session.specs.Stands.{at_start, first_standing, after_payload, stands}
 use Rattle.store_session.specs.Written.{WrittenRecord, the_version, the_change, the_snapshot, tree_of_written}
 use Rattle.store_session.specs.Written.{HasRecord, StandsAfter, ReadsAs, AreWritten}
 use Rattle.store_session.specs.ConsistencyDecided.{consistent_then}
-use Rattle.store_session.specs.Appending.{stands_append}
 use Rattle.std.proofs.lemmas.Bool.{eq-eqb}
 
 -- a change that has a record is read from its tree
@@ -116,12 +117,17 @@ record_stands n s t (the_snapshot now) typed h =
     ap (after_record n s) (snapshot_read s.form now.left now.comp now.right) ∙ snapshot_stands n s now typed h.0 h.1 h.2
     ∙ ap Ok (sym h.3)
 
+-- the payload of such a record, with its number
+pub one_taken : (n : ℕ) (p : List ℕ) (w : WrittenRecord) (s t : Standing) → is_typed s.form ≡ true
+    → ReadsAs s.form (p, w) → StandsAfter s w t → after_payload n s p ≡ Ok t
+one_taken n p w s t typed reads after =
+    ap (λ o. after_record n s (option_and_then record_of o)) reads ∙ record_stands n s t w typed after
+
 pub one_stands : (ps : List (List ℕ)) (p : List ℕ) (w : WrittenRecord) (s t : Standing) → is_typed s.form ≡ true
     → stands ps ≡ Ok s → ReadsAs s.form (p, w) → StandsAfter s w t
     → stands (ps ++ p ∷ []) ≡ Ok t
 one_stands ps p w s t typed h reads after =
-    stands_append ps p s h ∙ ap (λ o. after_record (length ps + 1) s (option_and_then record_of o)) reads
-    ∙ record_stands (length ps + 1) s t w typed after
+    one_more first_standing after_payload ps p s h ∙ one_taken (length ps + 1) p w s t typed reads after
 
 -- ---- many records
 
@@ -157,7 +163,7 @@ program_stands_at version tree text program l p opens is accepted_as reads =
     ∙ opens in
     let whole : lens_and_version p ≡ Some (l, version) = ap (option_and_then with_form) opening
     ∙ ap (option_map (λ (k : FormTree). (k, version))) form in
-    ap (from_opening []) whole
+    ap (λ o. from_first after_payload [] (option_map at_start o)) whole
 
 pub program_alone_stands : (text : List ℕ) (program : ProgramTree) (l : FormTree) (p : List ℕ) → unbounded text
     ≡ Ok program → form_of_program (Ok program) ≡ Ok l

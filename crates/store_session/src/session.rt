@@ -1,24 +1,15 @@
 //! The session of a store.
 
-ghost use Rattle.std.specs.Prelude.{◌≡◌};
-
-use edit_session::Session;
-use json::Scratch;
+use crate::records::OpenedRecords;
 use lens_flat::Flat;
+use store_engine::EngineSession;
 
-/// A session of the program that a store keeps: its lens, and the triple for which the payloads stand.
+/// The session of a store over two documents.
+pub type StoreSession = EngineSession<PairEngine>;
+
+/// Two documents that a store keeps in step, by the program's own lens.
 #[derive(Drop)]
-pub struct StoreSession {
-    pub(crate) session: Session<Flat>,
-    // Room for reading lines, which says nothing of the state.
-    pub(crate) scratch: Scratch,
-}
-
-impl StoreSession {
-    /// The session, with its lens and its triple.
-    pub fn session(&self) -> &Session<Flat>
-        ensures { result.now ≡ self.now.session }
-    {
-        &self.session
-    }
+pub struct PairEngine {
+    /// The session that the payloads represent.
+    pub opened: OpenedRecords<Flat>,
 }

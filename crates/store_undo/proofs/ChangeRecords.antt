@@ -11,9 +11,10 @@ use Rattle.lens_forms.specs.Forms.{FormTree, left_type, right_type}
 use Rattle.edit_session.specs.Step.{TripleTree, AllStepped}
 use Rattle.store_records.specs.RecordJson.{change_record, snapshot_record, change_in, version_in, snapshot_in, record_of, record_in}
 use Rattle.store_records.specs.declared.record_fault.RecordFault.TheVariants.{BadRecord}
-use Rattle.store_session.specs.Stands.{Standing, step_of, is_too_new, after_step, after_record, after_payloads}
+use Rattle.store_session.specs.Stands.{Standing, step_of, is_too_new, after_step, after_record, after_payload}
 use Rattle.store_undo.specs.Undoing.{change_of, changes_of}
-use Rattle.store_undo.proofs.Splitting.{went_on}
+use Rattle.store_engine.proofs.FoldParts.{went_on}
+use Rattle.store_engine.specs.RecordFold.{after_payloads}
 use Rattle.edit_undo.specs.Undone.{BothTrees, no_words, joined_both, undone_behind, undone, entries_of_all}
 use Rattle.edit_undo.proofs.Accepted.{change_goes}
 
@@ -93,13 +94,13 @@ takes_then s t end c cs a b =
     let all = undone_then s.form s.triple t.triple end.triple c cs a.words b.words a.stepped rest in
     record { words = all.0; undone_is = all.1; form = a.form ∙ b.form; version = a.version ∙ b.version }
 
-pub takes_over : (n : ℕ) (ps : List (List ℕ)) (s end : Standing) (cs : List ChangeTree) → after_payloads n s ps ≡ Ok end → changes_of ps ≡ Some cs → TakesOver s cs end
+pub takes_over : (n : ℕ) (ps : List (List ℕ)) (s end : Standing) (cs : List ChangeTree) → after_payloads after_payload n s ps ≡ Ok end → changes_of ps ≡ Some cs → TakesOver s cs end
 takes_over n [] s end cs h is =
     let same : s ≡ end = cc in
     let none : [] ≡ cs = cc in
     subst (λ (x : List ChangeTree). TakesOver s x end) none (subst (λ (x : Standing). TakesOver s [] x) same (record { words = no_words; undone_is = refl; form = refl; version = refl }))
 takes_over n (p ∷ ps) s end cs h is =
-    let here = went_on (λ t. after_payloads (n + 1) t ps) (after_record n s (record_in p)) end h in
+    let here = went_on (λ t. after_payloads after_payload (n + 1) t ps) (after_payload n s p) end h in
     let t = here.0 in
     let first = first_change (change_of p) (changes_of ps) cs is in
     let rest = takes_over (n + 1) ps t end first.1 here.2 first.3 in

@@ -9,14 +9,14 @@ use Rattle.gate_log.specs.LogOnDisk.{HoldsPayloads}
 use Rattle.lens_core.specs.Consistency.{IsConsistent}
 use Rattle.lens_forms.specs.Forms.{FormTree}
 use Rattle.store_records.specs.RecordJson.{RecordTree, version_record, change_record, snapshot_record, record_in}
-use Rattle.store_records.specs.StoredLens.{lens_and_version}
 use Rattle.store_records.specs.declared.record_fault.RecordFault.{RecordFault}
 use Rattle.store_records.specs.declared.record_fault.RecordFault.TheVariants as reopening
+use Rattle.store_engine.proofs.FoldParts.{always_known}
 use Rattle.store_run.specs.UndoCall.{undo_refusal_of_log, undo_refusal_in}
 use Rattle.store_run.specs.declared.refusals.StoreRefusal.{StoreRefusal}
 use Rattle.store_run.specs.declared.refusals.StoreRefusal.TheVariants.{NothingToUndo}
 use Rattle.store_session.specs.ConsistencyTest.{is_consistent}
-use Rattle.store_session.specs.Stands.{Standing, step_of, after_step, after_triple, triple_of, is_too_new, after_record, going_on, after_payloads, at_start, from_opening, stands}
+use Rattle.store_session.specs.Stands.{Standing, step_of, after_step, after_triple, triple_of, is_too_new, after_record, first_standing, after_payload, stands}
 use Rattle.store_undo.specs.UndoRecords.{new_records, version_then, TakesBack}
 use Rattle.store_undo.specs.Undoing.{Undoing, undoing_from, undoing_of, undoing, last_changes, payloads_before, refusal_of, undo_refusal}
 use Rattle.store_undo.specs.contracts.instance.PairUndoUndoneSession.TheImpl.{ghosts as pairs}
@@ -54,22 +54,8 @@ record_known n s (Some version_record) h = version_known n (record s { version =
 record_known n s (Some (change_record change)) h = change_known n s (step_of s.form s.triple change) (is_too_new change s.version) h
 record_known n s (Some (snapshot_record p)) h = triple_known n s (triple_of s.form p) h
 
-going_known : (others : Standing → Result Standing RecordFault) (r : Result Standing RecordFault) → (Memory r → ⊥) → ((t : Standing) → Memory (others t) → ⊥) → Memory (going_on others r) → ⊥
-going_known others (Ok t) first rest h = rest t h
-going_known others (Err fault) first rest h = first h
-
-payloads_known : (n : ℕ) (s : Standing) (ps : List (List ℕ)) → Memory (after_payloads n s ps) → ⊥
-payloads_known n s [] h = cc
-payloads_known n s (p ∷ ps) h =
-    going_known (λ t. after_payloads (n + 1) t ps) (after_record n s (record_in p)) (record_known n s (record_in p)) (λ t e. payloads_known (n + 1) t ps e) h
-
-opening_known : (ps : List (List ℕ)) (o : Option (FormTree × ℕ)) → Memory (from_opening ps o) → ⊥
-opening_known ps (Some o) h = payloads_known 2 (at_start o) ps h
-opening_known ps None h = cc
-
 pub stands_known : (held : List (List ℕ)) → Memory (stands held) → ⊥
-stands_known [] h = cc
-stands_known (p ∷ ps) h = opening_known ps (lens_and_version p) h
+stands_known held h = always_known first_standing after_payload (λ n s p. record_known n s (record_in p)) held h
 
 -- ---- refused or undone
 

@@ -6,9 +6,9 @@ use Rattle.std.proofs.lemmas.List.{take-append-drop, length-take-le}
 use Rattle.edit_module.specs.Changes.{ChangeTree}
 use Rattle.lens_core.specs.Translation.{translate}
 use Rattle.lens_forms.specs.Forms.{FormTree, left_type, right_type}
-use Rattle.store_session.specs.Stands.{Standing, stands}
+use Rattle.store_session.specs.Stands.{Standing, first_standing, after_payload, stands}
 use Rattle.store_undo.specs.Undoing.{changes_of, last_payloads, payloads_before, last_changes, undoing_from, undoing_of, undoing}
-use Rattle.store_undo.proofs.Splitting.{stood_before}
+use Rattle.store_engine.proofs.FoldParts.{parts_stand}
 use Rattle.store_undo.proofs.ChangeRecords.{TakesOver, takes_over}
 use Rattle.edit_undo.specs.Undone.{BothTrees, undone}
 
@@ -38,7 +38,7 @@ stood_then count held now cs h last =
     let fewer : count < length held = ltb-true count (length held) some.0 in
     let n = length held - count in
     let front : 0 < length (take n held) = omega (arith, length-take-le n held (omega (arith, fewer)), fewer) in
-    let parts = stood_before (take n held) (drop n held) now front (ap stands (take-append-drop n held) ∙ h) in
+    let parts = parts_stand first_standing after_payload (take n held) (drop n held) now front (ap stands (take-append-drop n held) ∙ h) in
     let was = parts.1 in
     let over = takes_over parts.0 (drop n held) was now cs parts.3 some.1 in
     let is = subst (λ (l : FormTree). undone (left_type l) (right_type l) (translate l) was.triple cs ≡ Some (now.triple, over.words)) over.form over.undone_is in

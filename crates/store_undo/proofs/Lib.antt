@@ -2,6 +2,5 @@ pub mod ChangeRecords
 pub mod Decided
 pub mod Earlier
 pub mod Makings
-pub mod Splitting
 pub mod TreeTexts
 pub mod VersionRecords

@@ -8,8 +8,8 @@ use Rattle.edit_undo.specs.Undone.{BothTrees}
 use Rattle.store_records.specs.RecordJson.{record_in}
 use Rattle.store_records.specs.declared.record_fault.RecordFault.{RecordFault}
 use Rattle.store_records.specs.declared.record_fault.RecordFault.TheVariants.{BadRecord}
-use Rattle.store_session.specs.Appending.{stands_append}
-use Rattle.store_session.specs.Stands.{Standing, after_record, stands}
+use Rattle.store_engine.specs.FoldLaws.{one_more}
+use Rattle.store_session.specs.Stands.{Standing, after_record, first_standing, after_payload, stands}
 use Rattle.store_session.specs.StoredStates.{version_text}
 use Rattle.store_session.specs.VersionRecords.{version_in}
 use Rattle.store_undo.specs.UndoRecords.{RepresentsNow, version_due}
@@ -63,7 +63,7 @@ version_taken n s h =
 
 pub version_behind : (held : List (List ℕ)) (s : Standing) → stands held ≡ Ok s → nat_eq s.version 1 ≡ true
     → stands (held ++ version_text ∷ []) ≡ Ok (record s { version = 2 })
-version_behind held s h is = stands_append held version_text s h ∙ version_taken (length held + 1) s is
+version_behind held s h is = one_more first_standing after_payload held version_text s h ∙ version_taken (length held + 1) s is
 
 -- what stands for the triple from before, with some version
 abbrev StandsNow : List (List ℕ) → Standing → Type 0

@@ -1,6 +1,6 @@
 use Rattle.store_run.proofs.AnyBytes.{refused_or_in_step, never_both}
 use Rattle.store_session.specs.Journals.{IsStateInStep}
-use Rattle.store_session.specs.contracts.instance.StoreSessionStoredSession.TheImpl.{ghosts as sessions}
+use Rattle.store_session.specs.SessionGhosts.{sessions}
 use Rattle.editlens_main.proofs.StoreRefusals.{in_step, known}
 use Rattle.editlens_main.proofs.laws.every_disk_is_refused_or_in_step.Goals as goal
 
