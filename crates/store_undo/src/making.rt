@@ -79,10 +79,10 @@ fn make_texts(alloc: Global, twice: OpenedTwice, changes: &[Change]) -> Result<M
         (right_type (form_tree twice.opened.session.lens.typed))
         r.1 r.0 (triple_tree twice.earlier)) }
 {
-    let mut session = twice.opened.session;
-    session.replace(twice.earlier);
-    let words = words_of(alloc, &mut session, changes)?;
-    let texts = texts_of(alloc, &session, &words)?;
+    let mut opened = twice.opened;
+    opened.session.replace(twice.earlier);
+    let words = words_of(alloc, &mut opened.session, changes)?;
+    let texts = texts_of(alloc, &opened.session, &words)?;
     Ok(texts)
 }
 

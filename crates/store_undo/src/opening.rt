@@ -36,9 +36,14 @@ pub(crate) fn open(
     count: u64,
     payloads: &Payloads,
 ) -> Result<OpenedTwice, RecordFault>
-    ensures stands { MatchResult result (StoodTwice count payloads.now) (IsRecordFault (stands payloads.now)) }
+    ensures { MatchResult result (StoodTwice count payloads.now) (IsRecordFault (stands payloads.now)) }
 {
-    let records = payloads.as_slice();
+    open_records(alloc, count, payloads.as_slice())
+}
+
+fn open_records(alloc: Global, count: u64, records: &[Bytes]) -> Result<OpenedTwice, RecordFault>
+    ensures { MatchResult result (StoodTwice count records.now) (IsRecordFault (stands records.now)) }
+{
     let kept = kept_before(count, records.len());
     let mut opened: OpenedRecords<Flat> = reopen_first(alloc, records, kept)?;
     let earlier = triple_of(alloc, &opened.session)?;
