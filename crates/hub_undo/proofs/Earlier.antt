@@ -1,5 +1,5 @@
 -- What the payloads before the last changes represent, and that the last changes go on from there.
-use Rattle.std.proofs.Common.{◌≡◌, ℕ, ◌+◌, ◌-◌, ◌<◌, ◌≤◌, Bool, true, false, cond, List, [], ◌∷◌, ◌++◌, length, take, drop, take-append-drop, Option, Some, None, Result, Ok, Err, refl, sym, ap, subst, ◌∙◌, arith}
+use Rattle.std.proofs.Common.{◌≡◌, ℕ, ◌+◌, ◌-◌, ◌<◌, ◌≤◌, Bool, true, false, cond, List, [], ◌∷◌, ◌++◌, length, take, drop, take-append-drop, Option, Some, None, Ok, Err, refl, sym, ap, subst, ◌∙◌, arith}
 use Rattle.std.specs.Prelude.{option_map, option_and_then, nat_lt}
 use Rattle.std.specs.Option.{option_or}
 use Rattle.std.proofs.lemmas.Bool.{ltb-true}
@@ -7,7 +7,6 @@ use Rattle.std.proofs.lemmas.List.{length-take-le}
 use Rattle.serde_json.specs.Data.{Data}
 use Rattle.edit_journal.specs.EntryJson.{tree_of_text}
 use Rattle.lens_forms.specs.Forms.{FormTree}
-use Rattle.store_records.specs.declared.record_fault.RecordFault.{RecordFault}
 use Rattle.store_engine.specs.RecordFold.{after_payloads}
 use Rattle.store_engine.proofs.FoldParts.{went_on, parts_stand}
 use Rattle.view_hub.specs.Groups.{GroupStepped, step_group}
