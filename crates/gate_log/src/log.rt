@@ -3,7 +3,7 @@ ghost use Rattle.std.specs.Prelude.{◌≡◌, ◌⊎◌, ◌↔◌, ◌+◌, �
 ghost use Rattle.std.specs.Prelude.{IfOk, IfErr, OnOk, OnErr, MatchResult, IsErrOf, IsOk, IsTrue, IfSome, IsNone};
 ghost use Rattle.std.specs.Int.{w64, to_le_bytes};
 ghost use Rattle.lens_io.specs.Causes.{Increased};
-ghost use Rattle.lens_io.specs.DiskRuns.{LeavesOnly, OnlyReads};
+ghost use Rattle.lens_io.specs.DiskRuns.{Counts, LeavesOnly, OnlyReads};
 ghost use Rattle.lens_io.specs.Disks.{Steps, Only, SameImages};
 ghost use Rattle.gate_log.specs.CallEnds.{AppendEnds, AppendLeaves, IsAppendFault, IsCreateFault, IsLogRefusal};
 ghost use Rattle.gate_log.specs.CallEnds.{IsPayloadsFault, IsSynced, NoBadRecord, after_append};
@@ -78,6 +78,7 @@ pub fn create_log<D: Disk>(disk: &mut D) -> Result<Log, LogFault>
     ensures rest { Steps (KeepsBehind 9) (D.content disk.old) (D.content disk.new) }
     ensures faults { D.faults disk.old ≤ D.faults disk.new }
     ensures room { D.room disk.new ≡ D.room disk.old }
+    ensures counts { OnOk result (Counts D.Disk disk.old disk.new 1 1) }
     ensures possible { IfErr result IsCreateFault }
     ensures cause { IsErrOf result LogFault.DiskFault
         → Increased (D.faults disk.old) (D.faults disk.new) }
@@ -95,7 +96,7 @@ pub fn create_log<D: Disk>(disk: &mut D) -> Result<Log, LogFault>
     })
 }
 
-/// Opens the log that the disk holds. It begins with a sync, and writes nothing.
+/// Opens the log that the disk holds. It begins with a sync, which is the only one, and writes nothing.
 ///
 /// - `NotALog`: if and only if the disk has fewer than 9 bytes or does not begin with the mark.
 /// - `BadRecord`: if and only if this record's gate is open and the record passes the end of the disk.
@@ -118,6 +119,7 @@ pub fn open_log<D: Disk>(disk: &mut D) -> Result<Log, LogFault>
     ensures faults { D.faults disk.old ≤ D.faults disk.new }
     ensures room { D.room disk.new ≡ D.room disk.old }
     ensures unwritten { D.writes disk.new ≡ D.writes disk.old }
+    ensures counts { OnOk result (Counts D.Disk disk.old disk.new 0 1) }
     ensures cause { IsErrOf result LogFault.DiskFault
         → Increased (D.faults disk.old) (D.faults disk.new) }
     ensures sure { IsErrOf result LogFault.DiskFault → IsNone (D.room disk.old) }
@@ -222,8 +224,8 @@ impl Log {
     /// - `DiskFault`: only if the disk's count of faults increased. The log has to be opened again. It then has the
     ///   payloads from before, with the new one or without.
     ///
-    /// A crash at any moment of the call leaves the payloads from before, with the new one or without. Whatever comes,
-    /// what was behind the place where the log ends then stays (`rest`): a disk that ended before that place ends there
+    /// At `Ok` the disk was called for two writes and two syncs (`counts`). A crash at any moment of the call leaves the
+    /// payloads from before, with the new one or without. Whatever comes, what was behind the place where the log ends then stays (`rest`): a disk that ended before that place ends there
     /// at most.
     pub fn append<D: Disk>(
         &mut self,
@@ -254,6 +256,7 @@ impl Log {
         ensures log { self.new ≡ after_append self.old (length payload.now) result }
         ensures faults { D.faults disk.old ≤ D.faults disk.new }
         ensures room { D.room disk.new ≡ D.room disk.old }
+        ensures counts { OnOk result (Counts D.Disk disk.old disk.new 2 2) }
         ensures possible { IfErr result IsAppendFault }
         ensures full { IsErrOf result LogFault.LogFull
             ↔ (2 ^ 63 - 1 < self.old.gate + 10 + length payload.now) }
@@ -294,6 +297,7 @@ impl Log {
         ensures log { self.new ≡ after_append self.old (length payload.now) result }
         ensures faults { D.faults disk.old ≤ D.faults disk.new }
         ensures room { D.room disk.new ≡ D.room disk.old }
+        ensures counts { OnOk result (Counts D.Disk disk.old disk.new 2 2) }
         ensures possible { IfErr result IsAppendFault }
         ensures full { IsErrOf result LogFault.LogFull
             ↔ (2 ^ 63 - 1 < self.old.gate + 10 + length payload.now) }
