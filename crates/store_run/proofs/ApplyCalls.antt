@@ -1,12 +1,13 @@
 -- The whole call, from the opening on.
 use Rattle.command_ends.specs.Statuses.{IsFinished}
-use Rattle.std.proofs.Common.{◌≡◌, ◌⊎◌, inl, inr, ℕ, List, [], ◌∷◌, ◌++◌, Option, Some, None, refl, sym, ap, subst, ◌∙◌, Ok, ◌+◌}
+use Rattle.std.proofs.Common.{◌≡◌, ◌⊎◌, inl, inr, ℕ, List, [], ◌∷◌, ◌++◌, Option, Some, None, refl, sym, ap, subst, ◌∙◌, Ok, ◌+◌, ◌*◌, length, append_assoc, arith}
 use Rattle.std.specs.Prelude.{option_to_list, IfSome}
 use Rattle.std.proofs.lemmas.Option.{same_Some}
 use Rattle.edit_journal.specs.declared.line.Line.{Line}
 use Rattle.gate_log.specs.LogBytes.{log_of}
 use Rattle.lens_io.specs.Calls.{IsUnasked, Gave}
-use Rattle.lens_io.specs.DiskRuns.{LeavesOnly}
+use Rattle.lens_io.proofs.CallCounts.{counts_then}
+use Rattle.lens_io.specs.DiskRuns.{Counts, LeavesOnly}
 use Rattle.lens_io.specs.declared.source.Source as OfSource
 use Rattle.lens_io.specs.declared.sink.Sink as OfSink
 use Rattle.lens_io.specs.declared.disk.Disk as OfDisk
@@ -19,6 +20,7 @@ use Rattle.store_run.specs.Devices.{devices_of}
 use Rattle.store_run.specs.Refusals.{IsOpening}
 use Rattle.store_run.specs.Effects.{HoldsFirst, StandsOn}
 use Rattle.store_run.specs.ApplyEnds.{status_of, ExitsApply, Continues, IsSafeFrom}
+use Rattle.store_run.specs.StoredCounts.{StoresInTwo}
 use Rattle.store_run.specs.StoreRuns.{text_of, kept_of}
 use Rattle.store_run.specs.ApplyCall.{ContinuesCall, IsSafeCall, EndsOpened}
 use Rattle.store_run.specs.declared.session.StoredAnswer.{StoredAnswer}
@@ -36,6 +38,12 @@ use Rattle.store_run.proofs.Standing.{whole_stands, each_stands}
 
 abbrev Payloads : Type 0
 Payloads = List (List ℕ)
+
+-- the calls of a disk behind the opening
+behind_opening : {D : Type 0} (disk : OfDisk.Ghosts D) (d0 d d' : D) (n : ℕ) → Counts disk d0 d 0 1 → Counts disk d d' n n → Counts disk d0 d' n (1 + n)
+behind_opening disk d0 d d' n first more =
+    let same : 0 + n ≡ n = omega arith in
+    subst (λ (m : ℕ). Counts disk d0 d' m (1 + n)) same (counts_then disk d0 d d' 0 1 n n first more)
 
 -- ---- what is held is told once
 
@@ -87,6 +95,17 @@ module _ {S K D A : Type 0} (source : OfSource.Ghosts S) (sink : OfSink.Ghosts K
     continues_call (inl c) f s h = continued c s h
     continues_call (inr (inl e)) f s h = elim e.short [ inl x ↦ no_stop NoMemory status _ x.0 f | inr x ↦ no_stop SinkFault status _ x.0 f ]
     continues_call (inr (inr e)) f s h = elim e.status_is [ inl x ↦ no_stop e.stop status _ x.0 f | inr x ↦ no_stop SinkFault status _ x.1 f ]
+
+    pub stores_in_two : (d0 : D) → Counts disk d0 d 0 1 → ExitsApply source sink disk session (i, k, d, l) (i', k', d', l') (option_to_list version) t t' status → IsFinished status
+        → StandsOn disk d l before → StoresInTwo disk d0 d' before
+    stores_in_two d0 first (inl c) f s = record {
+      more = option_to_list version ++ kept_of c.steps;
+      held = subst (λ (x : Payloads). IfSome (disk.content d') (HoldsPayloads x)) (append_assoc before (option_to_list version) (kept_of c.steps))
+          (read_holds l' d' ((before ++ option_to_list version) ++ kept_of c.steps) (c.stored before s));
+      counts = behind_opening disk d0 d d' (2 * length (option_to_list version ++ kept_of c.steps)) first c.counts;
+    }
+    stores_in_two d0 first (inr (inl e)) f s = elim e.short [ inl x ↦ no_stop NoMemory status _ x.0 f | inr x ↦ no_stop SinkFault status _ x.0 f ]
+    stores_in_two d0 first (inr (inr e)) f s = elim e.status_is [ inl x ↦ no_stop e.stop status _ x.0 f | inr x ↦ no_stop SinkFault status _ x.1 f ]
 
   -- ---- a crash
 

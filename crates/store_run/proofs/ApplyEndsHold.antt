@@ -18,6 +18,7 @@ use Rattle.store_run.specs.Devices.{devices_of}
 use Rattle.store_run.specs.Answered.{Answers, StopsAmong, EndsPieces}
 use Rattle.script_input.specs.Coming.{ended_lines}
 use Rattle.store_run.specs.Crash.{IsAcknowledged, IsCrashSafe}
+use Rattle.store_run.proofs.Effects.{counts_both}
 use Rattle.store_run.specs.Effects.{HoldsFirst, StandsOn, Adds, StopsStoring}
 use Rattle.store_run.specs.ApplyEnds.{log_full_line, said_at, SaysStop, EndsStored, StopsStored, Continues, ExitsApply, IsSafeFrom}
 use Rattle.store_run.specs.JournalEnds.{EndsJournal, StopsJournal}
@@ -115,6 +116,7 @@ module _ {S K D A : Type 0} (source : OfSource.Ghosts S) (sink : OfSink.Ghosts K
           given = Appends-trans (sink.held k) (sink.held k1) (sink.held k') (text_of a.steps) (session.state_text t') a.adds.given h;
           stored = λ base s. a.adds.stored (base ++ version) (e.adds.stored base s);
           behind = both_keep (e.l1.gate + 1) (l'.gate + 1) (disk.content d) (disk.content e.d1) (disk.content d') (omega (arith, a.adds.gate)) e.adds.behind a.adds.behind;
+          counts = counts_both sink disk only_now images_hold d e.d1 d' version (kept_of a.steps) e.adds.counts a.adds.counts;
           ended = is ∙ ap status_at_end a.refused;
         }
 

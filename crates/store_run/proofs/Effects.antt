@@ -1,12 +1,13 @@
 -- Parts of a call, one after another: what they add, and how they stop.
-use Rattle.std.proofs.Common.{◌≡◌, inl, inr, ℕ, ◌+◌, ◌-◌, ◌^◌, ◌<◌, List, [], ◌∷◌, ◌++◌, length, take, drop, Option, Some, None, Result, Ok, Err, refl, sym, ap, subst, ◌∙◌, append_assoc, append-nil, arith, length-drop}
+use Rattle.std.proofs.Common.{◌≡◌, inl, inr, ℕ, ◌+◌, ◌*◌, ◌-◌, ◌^◌, ◌<◌, List, [], ◌∷◌, ◌++◌, length, length-append, take, drop, Option, Some, None, Result, Ok, Err, refl, sym, ap, subst, ◌∙◌, append_assoc, append-nil, arith, length-drop}
 use Rattle.std.proofs.lemmas.List.{take-append-drop}
 use Rattle.std.specs.Prelude.{OnOk, IfErr, IfSome, option_to_list}
 use Rattle.std.specs.Io.KnownBytes.{Appends}
 use Rattle.std.proofs.KnownBytes.{Appends-nil, Appends-trans}
 use Rattle.lens_io.specs.Calls.{Gave, GaveFront}
 use Rattle.lens_io.specs.Content.{AppendsFront}
-use Rattle.lens_io.specs.DiskRuns.{LeavesOnly}
+use Rattle.lens_io.specs.DiskRuns.{Counts, LeavesOnly}
+use Rattle.lens_io.proofs.CallCounts.{counts_none, counts_then}
 use Rattle.lens_io.specs.declared.sink.Sink as OfSink
 use Rattle.lens_io.specs.declared.disk.Disk as OfDisk
 use Rattle.gate_log.specs.LogBytes.{records_length}
@@ -98,6 +99,13 @@ module _ {K D : Type 0} (sink : OfSink.Ghosts K) (disk : OfDisk.Ghosts D)
   pub keeps_at : (d d' : D) (m n : ℕ) → m ≡ n → Steps (KeepsBehind m) (disk.content d) (disk.content d') → Steps (KeepsBehind n) (disk.content d) (disk.content d')
   keeps_at d d' m n e h = subst (λ (k : ℕ). Steps (KeepsBehind k) (disk.content d) (disk.content d')) e h
 
+  -- the calls of two parts
+  pub counts_both : (d d' d'' : D) (xs ys : Payloads) → Counts disk d d' (2 * length xs) (2 * length xs) → Counts disk d' d'' (2 * length ys) (2 * length ys)
+      → Counts disk d d'' (2 * length (xs ++ ys)) (2 * length (xs ++ ys))
+  counts_both d d' d'' xs ys a b =
+      let same : 2 * length xs + 2 * length ys ≡ 2 * length (xs ++ ys) = omega (arith, length-append xs ys) in
+      subst (λ (n : ℕ). Counts disk d d'' n n) same (counts_then disk d d' d'' (2 * length xs) (2 * length xs) (2 * length ys) (2 * length ys) a b)
+
   -- nothing but the sink was called
   pub adds_given : (k k' : K) (d : D) (l : LogState) (text : List ℕ) → Gave sink k k' text → Adds sink disk (k, d, l) (k', d, l) text []
   adds_given k k' d l text h = record {
@@ -107,6 +115,7 @@ module _ {K D : Type 0} (sink : OfSink.Ghosts K) (disk : OfDisk.Ghosts D)
     gate = let same : l.gate ≡ l.gate + 0 = omega arith in same;
     same_room = refl;
     behind = none_keeps (l.gate + 1) (disk.content d);
+    counts = counts_none disk d;
   }
 
   pub adds_none : (k : K) (d : D) (l : LogState) → Adds sink disk (k, d, l) (k, d, l) [] []
@@ -123,6 +132,7 @@ module _ {K D : Type 0} (sink : OfSink.Ghosts K) (disk : OfDisk.Ghosts D)
     gate = omega (arith, a.gate, b.gate, records_append kept kept');
     same_room = b.same_room ∙ a.same_room;
     behind = both_keep (l'.gate + 1) (l''.gate + 1) (disk.content d) (disk.content d') (disk.content d'') (omega (arith, b.gate)) a.behind b.behind;
+    counts = counts_both d d' d'' kept kept' a.counts b.counts;
   }
 
   gives_then : (stop : Stop) (k k' k'' : K) (text done begun : List ℕ) → Gave sink k k' text
@@ -181,15 +191,16 @@ module _ {K D : Type 0} (sink : OfSink.Ghosts K) (disk : OfDisk.Ghosts D)
   pub append_adds : (k : K) (d d' : D) (l l' : LogState) (payload : List ℕ) → ((base : Payloads) → StandsOn disk d l base → StandsOn disk d' l' (base ++ payload ∷ []))
       → ((base : Payloads) → StandsOn disk d l base → LeavesOnly disk d d' (HoldsOneMore base payload))
       → l'.gate ≡ l.gate + 9 + length payload → disk.room d' ≡ disk.room d
-      → Steps (KeepsBehind (l.gate + 10 + length payload)) (disk.content d) (disk.content d')
+      → Steps (KeepsBehind (l.gate + 10 + length payload)) (disk.content d) (disk.content d') → Counts disk d d' 2 2
       → Adds sink disk (k, d, l) (k, d', l') [] (payload ∷ [])
-  append_adds k d d' l l' payload ends moments gate same behind = record {
+  append_adds k d d' l l' payload ends moments gate same behind counts = record {
     given = Appends-nil (sink.held k);
     stored = ends;
     moments = λ base s. leaves_more disk d d' (HoldsOneMore base payload) (HoldsFirst base (payload ∷ [])) (first_one base payload) (moments base s);
     gate = let one : l'.gate ≡ l.gate + (9 + length payload + 0) = omega (arith, gate) in one;
     same_room = same;
     behind = keeps_at d d' (l.gate + 10 + length payload) (l'.gate + 1) (omega (arith, gate)) behind;
+    counts = counts;
   }
 
   pub append_stops : (k : K) (d d' : D) (l l' : LogState) (payload line : List ℕ) (fault : LogFault) → (base : Payloads) × StandsOn disk d l base
@@ -254,7 +265,7 @@ module _ {K D : Type 0} (sink : OfSink.Ghosts K) (disk : OfDisk.Ghosts D)
   -- the sink at a line, however it came out
   pub line_added : (r : Result (Unit {0}) Stop) (k k' : K) (d d' : D) (l l' : LogState) (line : List ℕ) (kept : Payloads) → Adds sink disk (k, d, l) (k, d', l') [] kept
       → OnOk r (Gave sink k k' line) → OnOk r (Adds sink disk (k, d, l) (k', d', l') line kept)
-  line_added (Ok u) k k' d d' l l' line kept a h = record { given = h; stored = a.stored; moments = a.moments; gate = a.gate; same_room = a.same_room; behind = a.behind }
+  line_added (Ok u) k k' d d' l l' line kept a h = record { given = h; stored = a.stored; moments = a.moments; gate = a.gate; same_room = a.same_room; behind = a.behind; counts = a.counts }
   line_added (Err stop) k k' d d' l l' line kept a h = tt
 
   pub line_stopped : (r : Result (Unit {0}) Stop) (k k' : K) (d d' : D) (l l' : LogState) (line : List ℕ) (kept : Payloads) → Adds sink disk (k, d, l) (k, d', l') [] kept

@@ -11,6 +11,7 @@ use Rattle.store_run.specs.ApplyCall.{ContinuesCall, IsUnopened, IsSafeCall, End
 use Rattle.store_run.specs.InTime.{StoreAnswersInTime}
 use Rattle.store_run.specs.Rooms.{most_bytes, TakesTooMany, RunHasNoRoom, IsApplyCause}
 use Rattle.store_run.specs.Refusals.{RefusesStore}
+use Rattle.store_run.specs.StoredCounts.{StoresInTwo}
 use Rattle.store_run.specs.Stores.{Store, RefusedStore}
 use Rattle.store_run.specs.declared.session.StoredSession as OfSession
 use Rattle.command_ends.specs.declared.status.Status.{Status}
@@ -35,6 +36,8 @@ module _ {S K D A : Type 0} (source : OfSource.Ghosts S) (sink : OfSink.Ghosts K
     pub continues : IsFinished status
         → ContinuesCall source sink disk session (old.source, old.sink) new store.payloads store.state store.version
         status
+    -- for each payload that was added the disk was called for two writes and two syncs, and for one sync to open the store
+    pub counts : IsFinished status → StoresInTwo disk old.disk new.disk store.payloads
     -- The state of the store is in step, and so is every state of the run: a pair is in its lens's consistency relation,
     -- and each view of a hub is in that of its lens with the hub.
     pub in_step : StaysInStep store.state

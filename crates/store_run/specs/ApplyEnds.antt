@@ -1,8 +1,8 @@
 -- How `apply` ends over a session that was opened, and what holds then. Read it from the end: `IsSafeFrom`,
 -- `ExitsApply`, then `Continues`.
-use Rattle.std.specs.Prelude.{◌≡◌, ◌⊎◌, ℕ, ◌+◌, ◌≤◌, List, [], ◌++◌, length, false, Some}
+use Rattle.std.specs.Prelude.{◌≡◌, ◌⊎◌, ℕ, ◌+◌, ◌*◌, ◌≤◌, List, [], ◌++◌, length, false, Some}
 use Rattle.lens_io.specs.Calls.{Took, IsRead, IsUnasked, Gave, GaveFront}
-use Rattle.lens_io.specs.DiskRuns.{LeavesOnly}
+use Rattle.lens_io.specs.DiskRuns.{Counts, LeavesOnly}
 use Rattle.lens_io.specs.declared.source.Source as OfSource
 use Rattle.lens_io.specs.declared.sink.Sink as OfSink
 use Rattle.lens_io.specs.declared.disk.Disk as OfDisk
@@ -85,7 +85,8 @@ module _ {S K D A : Type 0} (source : OfSource.Ghosts S) (sink : OfSink.Ghosts K
     (session : OfSession.Ghosts A) (old new : S × K × D × LogState) where
   -- The source was read to its end, and gave these bytes. The answer lines of their run, and then the state lines of
   -- its last state, were written. The payloads held are those from before, the version record if it was to be stored,
-  -- and those of the changes that were accepted, in order. What is behind the log's end was there before.
+  -- and those of the changes that were accepted, in order; each of these took two writes and two syncs. What is behind
+  -- the log's end was there before.
   pub record Continues (version : List (List ℕ)) (t t' : session.State) (status : Status) : Type 0 where
     pub bytes : List ℕ
     pub consumes : Took source old.0 new.0 bytes
@@ -99,6 +100,7 @@ module _ {S K D A : Type 0} (source : OfSource.Ghosts S) (sink : OfSink.Ghosts K
     pub stored : (base : List (List ℕ)) → StandsOn disk old.2 old.3 base
         → StandsOn disk new.2 new.3 ((base ++ version) ++ kept_of steps)
     pub behind : Steps (KeepsBehind (new.3.gate + 1)) (disk.content old.2) (disk.content new.2)
+    pub counts : Counts disk old.2 new.2 (2 * length (version ++ kept_of steps)) (2 * length (version ++ kept_of steps))
     pub ended : status ≡ status_at_end (any_line_refused steps)
 
   -- The end of the journal was reached, and not all of the state lines were written: memory ran out before them, or

@@ -1,8 +1,8 @@
 -- What a part of a call does to the sink, the disk and the log. Read it from the end: `StopsStoring`, then `Adds`.
-use Rattle.std.specs.Prelude.{◌≡◌, ◌⊎◌, ℕ, ◌+◌, ◌-◌, ◌^◌, ◌<◌, List, [], ◌∷◌, ◌++◌, length, IfSome}
+use Rattle.std.specs.Prelude.{◌≡◌, ◌⊎◌, ℕ, ◌+◌, ◌*◌, ◌-◌, ◌^◌, ◌<◌, List, [], ◌∷◌, ◌++◌, length, IfSome}
 use Rattle.std.specs.declared.option.Option.{Option}
 use Rattle.lens_io.specs.Calls.{Gave}
-use Rattle.lens_io.specs.DiskRuns.{LeavesOnly}
+use Rattle.lens_io.specs.DiskRuns.{Counts, LeavesOnly}
 use Rattle.lens_io.specs.declared.sink.Sink as OfSink
 use Rattle.lens_io.specs.declared.disk.Disk as OfDisk
 use Rattle.gate_log.specs.LogBytes.{records_length}
@@ -80,8 +80,9 @@ module _ {D : Type 0} (disk : OfDisk.Ghosts D) (old new : D × LogState) where
 
 -- A sink, a disk and the log on it, before a part of a call and after it.
 module _ {K D : Type 0} (sink : OfSink.Ghosts K) (disk : OfDisk.Ghosts D) (old new : K × D × LogState) where
-  -- This text was written, and these payloads were stored behind those from before. A crash at any moment leaves the
-  -- first of them. The closed gate lies behind them. What is behind the log's end was there before.
+  -- This text was written, and these payloads were stored behind those from before, each by two writes and two syncs. A
+  -- crash at any moment leaves the first of them. The closed gate lies behind them. What is behind the log's end was
+  -- there before.
   pub record Adds (text : List ℕ) (kept : List (List ℕ)) : Type 0 where
     pub given : Gave sink old.0 new.0 text
     pub stored : (base : List (List ℕ)) → StandsOn disk old.1 old.2 base → StandsOn disk new.1 new.2 (base ++ kept)
@@ -90,6 +91,7 @@ module _ {K D : Type 0} (sink : OfSink.Ghosts K) (disk : OfDisk.Ghosts D) (old n
     pub gate : new.2.gate ≡ old.2.gate + records_length kept
     pub same_room : disk.room new.1 ≡ disk.room old.1
     pub behind : Steps (KeepsBehind (new.2.gate + 1)) (disk.content old.1) (disk.content new.1)
+    pub counts : Counts disk old.1 new.1 (2 * length kept) (2 * length kept)
 
   -- A part of a call stopped. These answers were written and these payloads stored, and this answer and payload were
   -- begun, if any. What is behind the place where the log ends with all of them was there before.

@@ -25,6 +25,7 @@ pub mod Stopping
 pub mod StoreBytes
 pub mod StoreEnds
 pub mod StoreRuns
+pub mod StoredCounts
 pub mod Stores
 pub mod UndoCall
 pub mod Undoes

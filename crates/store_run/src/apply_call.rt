@@ -9,6 +9,7 @@ ghost use Rattle.store_run.specs.ApplyCall.{ContinuesCall, IsSafeCall, IsUnopene
 ghost use Rattle.store_run.specs.InTime.{StoreAnswersInTime};
 ghost use Rattle.store_run.specs.Refusals.{IsUnwritten, EndsRefused};
 ghost use Rattle.store_run.specs.Rooms.{most_bytes, TakesTooMany, RunHasNoRoom, IsApplyCause};
+ghost use Rattle.store_run.specs.StoredCounts.{StoresInTwo};
 ghost use Rattle.store_run.specs.Stores.{Store, RefusedStore};
 
 use crate::continuing::continue_store;
@@ -23,6 +24,8 @@ use std::alloc::Global;
 /// - `continues`: after `Done` and `SomeRefused` the run goes on from the state for which the payloads from before
 ///   stand. Its answer lines and then the state lines were written. The payloads of the changes that were accepted are
 ///   stored, and all payloads stand for the last state.
+/// - `counts`: after these two, the disk was called for two writes and two syncs for each payload that was added, and
+///   for one sync to open the store. So an item that was refused took none.
 /// - `safe`: whatever the status, a crash at any moment of the call leaves what the definition says. If the sync of the
 ///   opening failed, nothing has changed.
 /// - `exits`: what was written and what is stored after each status, if the payloads stand for a session.
@@ -48,6 +51,8 @@ pub fn apply<S: Source, A: StoredSession + Drop, K: Sink, D: Disk>(
         → ContinuesCall S.Source K.Sink D.Disk A.StoredSession
         (source.old, sink.old) (devices_of source.new sink.new disk.new)
         store.payloads store.state store.version result }
+    ensures counts { (store : Store D.Disk A.StoredSession disk.old) → IsFinished result
+        → StoresInTwo D.Disk disk.old disk.new store.payloads }
     ensures safe { (store : Store D.Disk A.StoredSession disk.old)
         → (result ≡ Status.DiskFault) × IsUnopened S.Source K.Sink D.Disk
         (devices_of source.old sink.old disk.old) (devices_of source.new sink.new disk.new)

@@ -1,7 +1,8 @@
 //! Opening a store: its log, its payloads, and the session that they represent.
-ghost use Rattle.std.specs.Prelude.{◌≡◌, ◌⊎◌, ◌≤◌, List, ℕ, IfErr, IfOk, IsErrOf, IsNone, MatchResult, Some};
+ghost use Rattle.std.specs.Prelude.{◌≡◌, ◌⊎◌, ◌≤◌, List, ℕ, IfErr, IfOk, IsErrOf, IsNone, MatchResult, OnOk, Some};
 ghost use Rattle.command_ends.specs.Statuses.{IsStatusAmong, IsFinished, quiet_statuses};
 ghost use Rattle.lens_io.specs.Calls.{DiskFailed, SinkFailed};
+ghost use Rattle.lens_io.specs.DiskRuns.{Counts};
 ghost use Rattle.gate_log.specs.LogOnDisk.{HoldsPayloads};
 ghost use Rattle.store_run.specs.Effects.{StandsOn};
 ghost use Rattle.store_run.specs.Opening.{EndsUnopened, FailsToOpen, IsOpened, IsReadLog, IsRefusedFor, IsUnreadFor};
@@ -97,6 +98,7 @@ pub fn read_store<D: Disk>(alloc: Global, disk: &mut D) -> Result<ReadStore, Ope
         → IsErrOf result OpenFault.DiskFault ⊎ ImagesHold D.Disk disk.new payloads }
     ensures stands { IfOk result (λ store. (base : List (List ℕ)) × StandsOn D.Disk disk.new store.log base) }
     ensures opening { IsOpening D.Disk disk.old disk.new }
+    ensures counts { OnOk result (Counts D.Disk disk.old disk.new 0 1) }
     ensures faults { D.faults disk.old ≤ D.faults disk.new }
     ensures cause { IsErrOf result OpenFault.DiskFault → DiskFailed D.Disk disk.old disk.new }
     ensures sure { IsErrOf result OpenFault.DiskFault → IsNone (D.room disk.old) }
@@ -132,6 +134,7 @@ pub fn open_store<A: StoredSession + Drop, D: Disk>(
         → IsErrOf result OpenFault.DiskFault ⊎ ImagesHold D.Disk disk.new store.payloads }
     ensures stands { IfOk result (λ made. (base : List (List ℕ)) × StandsOn D.Disk disk.new made.log base) }
     ensures opening { IsOpening D.Disk disk.old disk.new }
+    ensures counts { OnOk result (Counts D.Disk disk.old disk.new 0 1) }
     ensures faults { D.faults disk.old ≤ D.faults disk.new }
     ensures cause { IsErrOf result OpenFault.DiskFault → DiskFailed D.Disk disk.old disk.new }
     ensures sure { IsErrOf result OpenFault.DiskFault → IsNone (D.room disk.old) }

@@ -6,7 +6,7 @@ use Rattle.store_run.specs.Devices.{devices_of}
 use Rattle.store_run.specs.ApplyCall.{ContinuesCall, EndsOpened, IsSafeCall}
 use Rattle.store_run.specs.declared.opening.OpenFault.{OpenFault}
 use Rattle.store_run.specs.declared.opening.OpenFault.TheVariants.{DiskFault}
-use Rattle.store_run.proofs.ApplyCalls.{continues_call, held_first, opened_here, opened_later, safe_call, safe_later, safe_synced}
+use Rattle.store_run.proofs.ApplyCalls.{continues_call, held_first, opened_here, opened_later, safe_call, safe_later, safe_synced, stores_in_two}
 use Rattle.store_run.proofs.InTimeEnds.{call_in_time}
 use Rattle.store_run.proofs.Rooms.{apply_cause, apply_complete}
 use Rattle.store_run.proofs.StoredPayloads.{images_held, reads_held}
@@ -46,6 +46,35 @@ returns-in-Ok-clause-continues g c =
     let stands = store.stands ∙ ap (λ (x : session.State × Option (List ℕ)). Ok x) (sym same) in
     subst (λ (x : session.State × Option (List ℕ)). ContinuesCall source sink disk session (i, k) (devices_of i' k' d') before x.0 x.1 status) same
     (continues_call source sink disk session hold reads laws.version_stands laws.change_stands laws.refused_stays laws.version_counts laws.change_counts i i' k k' d1 d' l l' before v0 t0 t' status e.exits f o.stands stands)
+
+pub returns-in-Ok-clause-counts : goal.returns-in-Ok-clause-counts
+returns-in-Ok-clause-counts g c =
+    let source = g.S.Source in
+    let disk = g.D.Disk in
+    let sink = g.K.Sink in
+    let session = g.A.StoredSession in
+    let hold = images_held disk g.met.D.Disk.content_is_image in
+    let reads = reads_held disk in
+    let laws = g.met.A.StoredSession in
+    let i = c.args.source.now in
+    let k = c.args.sink.now in
+    let d = c.args.disk.now in
+    let d1 = c.open_store.new.disk in
+    let made = c.in-Ok.store in
+    let l = made.log in
+    let t0 = session.state made.session in
+    let v0 = made.version in
+    let i' = c.continue_store.new.source in
+    let k' = c.continue_store.new.sink in
+    let d' = c.continue_store.new.disk in
+    let l' = c.continue_store.new.log in
+    let t' = session.state c.continue_store.new.session in
+    let status = c.continue_store.result in
+    let e = c.continue_store.ensures in
+    λ store f.
+    let o = c.in-Ok.ensures.opened store in
+    let before = store.payloads in
+    stores_in_two source sink disk session hold reads laws.version_stands laws.change_stands laws.refused_stays laws.version_counts laws.change_counts i i' k k' d1 d' l l' before v0 t0 t' status d c.in-Ok.ensures.counts e.exits f o.stands
 
 pub returns-in-Ok-clause-safe : goal.returns-in-Ok-clause-safe
 returns-in-Ok-clause-safe g c =
@@ -145,6 +174,9 @@ returns-in-Ok-clause-refused g c = λ other. absurd (c.in-Ok.ensures.refused oth
 
 pub returns-in-Err-clause-continues : goal.returns-in-Err-clause-continues
 returns-in-Err-clause-continues g c = λ store f. absurd (c.refuse_store.ensures.unfinished f)
+
+pub returns-in-Err-clause-counts : goal.returns-in-Err-clause-counts
+returns-in-Err-clause-counts g c = λ store f. absurd (c.refuse_store.ensures.unfinished f)
 
 pub returns-in-Err-clause-safe : goal.returns-in-Err-clause-safe
 returns-in-Err-clause-safe g c =

@@ -17,7 +17,7 @@ returns-in-Ok-clause-stored g c =
     let hold = images_held disk g.met.D.Disk.content_is_image in
     let payload = c.args.payload.now in
     line_added sink disk only hold c.give_line.result c.args.sink.now c.give_line.new.sink c.args.disk.now c.append.new.disk c.args.log.now c.append.new.self c.args.line.now (payload ∷ [])
-    (append_adds sink disk only hold c.args.sink.now c.args.disk.now c.append.new.disk c.args.log.now c.append.new.self payload c.in-Ok.ensures.ends c.in-Ok.ensures.moments (ap (λ (x : LogState). x.gate) c.in-Ok.ensures.log) c.in-Ok.ensures.room c.in-Ok.ensures.rest)
+    (append_adds sink disk only hold c.args.sink.now c.args.disk.now c.append.new.disk c.args.log.now c.append.new.self payload c.in-Ok.ensures.ends c.in-Ok.ensures.moments (ap (λ (x : LogState). x.gate) c.in-Ok.ensures.log) c.in-Ok.ensures.room c.in-Ok.ensures.rest c.in-Ok.ensures.counts)
     c.give_line.ensures.given
 
 pub returns-in-Ok-clause-stopped : goal.returns-in-Ok-clause-stopped
@@ -28,7 +28,7 @@ returns-in-Ok-clause-stopped g c =
     let hold = images_held disk g.met.D.Disk.content_is_image in
     let payload = c.args.payload.now in
     line_stopped sink disk only hold c.give_line.result c.args.sink.now c.give_line.new.sink c.args.disk.now c.append.new.disk c.args.log.now c.append.new.self c.args.line.now (payload ∷ [])
-    (append_adds sink disk only hold c.args.sink.now c.args.disk.now c.append.new.disk c.args.log.now c.append.new.self payload c.in-Ok.ensures.ends c.in-Ok.ensures.moments (ap (λ (x : LogState). x.gate) c.in-Ok.ensures.log) c.in-Ok.ensures.room c.in-Ok.ensures.rest)
+    (append_adds sink disk only hold c.args.sink.now c.args.disk.now c.append.new.disk c.args.log.now c.append.new.self payload c.in-Ok.ensures.ends c.in-Ok.ensures.moments (ap (λ (x : LogState). x.gate) c.in-Ok.ensures.log) c.in-Ok.ensures.room c.in-Ok.ensures.rest c.in-Ok.ensures.counts)
     c.give_line.ensures.front
 
 pub returns-in-Ok-clause-counted : goal.returns-in-Ok-clause-counted

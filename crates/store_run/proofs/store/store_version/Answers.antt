@@ -22,7 +22,7 @@ returns-in-Ok-clause-stored g c =
     let payload = c.as_slice.result.now in
     let is : c.args.version.now ≡ Some payload = c.in-Some.is ∙ ap (λ (x : List ℕ). Some x) (sym c.as_slice.ensures) in
     subst (λ (o : Option (List ℕ)). Adds sink disk (k, d, l) (k, d', l') [] (option_to_list o)) (sym is)
-    (append_adds sink disk only hold k d d' l l' payload c.in-Ok.ensures.ends c.in-Ok.ensures.moments (ap (λ (x : LogState). x.gate) c.in-Ok.ensures.log) c.in-Ok.ensures.room c.in-Ok.ensures.rest)
+    (append_adds sink disk only hold k d d' l l' payload c.in-Ok.ensures.ends c.in-Ok.ensures.moments (ap (λ (x : LogState). x.gate) c.in-Ok.ensures.log) c.in-Ok.ensures.room c.in-Ok.ensures.rest c.in-Ok.ensures.counts)
 
 pub returns-in-Err-clause-stopped : goal.returns-in-Err-clause-stopped
 returns-in-Err-clause-stopped g c =
